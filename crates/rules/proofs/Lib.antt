@@ -1,0 +1,4 @@
+pub mod BasicsLaws
+pub mod ShareLaws
+pub mod TurnLaws
+pub mod PlaceLaws
