@@ -5,3 +5,8 @@ pub mod TurnLaws
 pub mod PlaceLaws
 pub mod SignedLaws
 pub mod BestLaws
+pub mod RecordLaws
+pub mod Invariant
+pub mod MarketLaws
+pub mod ExecuteCases
+pub mod ExecuteLaws

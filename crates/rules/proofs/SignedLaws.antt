@@ -10,7 +10,7 @@ use lib.Dec.{eqb, ltb, le→leb, leb→le}
 use lib.IntN.{ℤ, pos, negsuc, negℤ, subℕ, _+ℤ_, _*ℤ_}
 use lib.Signed.{_≤ℤ_, leZ-yes}
 use Rattle.rules.specs.Basics.{sum, Below}
-use Rattle.rules.specs.Prices.{mostCents, mostHeld, cents}
+use Rattle.rules.specs.Prices.{mostCents, mostHeld, cents, offset}
 use Rattle.rules.specs.Turn.{keyOf, Offer, sizes}
 use Rattle.rules.specs.Best.{Inside, worth, NoBetter, Keyed}
 use Rattle.rules.specs.Demand.{sameCents}
@@ -72,6 +72,14 @@ key-inside true limit p h k i = diff-le (cents p) (cents limit) p mostCents limi
 key-inside false limit p h k i = diff-le (cents limit) (cents p) limit mostCents p mostCents (cents-diff limit) (cents-diff p) (omega arith)
 
 -- ---- prices
+
+-- a price that is given back signed is held as it was
+pub cents-held : (p : ℕ) → offset (cents p) ≡ p
+cents-held p =
+    elim (decLt p mostCents) [
+      | yes l ↦ rw (lt-ltb p mostCents l) (omega arith)
+      | no n ↦ rw (le-ltb p mostCents (omega arith)) (omega arith)
+    ]
 
 -- two prices are the same in cents just where they are the same as held
 pub same-cents : (p q : ℕ) → sameCents (cents p) (cents q) ≡ eqb p q
