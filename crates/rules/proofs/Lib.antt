@@ -10,3 +10,4 @@ pub mod Invariant
 pub mod MarketLaws
 pub mod ExecuteCases
 pub mod ExecuteLaws
+pub mod SilentLaws

@@ -15,7 +15,7 @@ use Rattle.rules.specs.Turn.{Rank, L, C, N, T, R, rankNumber, Contra, le
 use Rattle.rules.specs.Execution.{upTo, allUpTo}
 use Rattle.rules.specs.Best.{Each, letter, sameRank, Keyed}
 use Rattle.rules.specs.Demand.{sameContra, sameCents, isOf, took, wayOf, Named, All, Once}
-use Rattle.rules.proofs.TestLaws.{eq-of, and-left, and-right, pick-same}
+use Rattle.rules.proofs.TestLaws.{eq-of, and-left, and-right, pick-same, pick-none}
 use Rattle.rules.proofs.TurnLaws.{Rising, Covers, cap, cap-all, places-rising, places-cover, each-map}
 use Rattle.rules.proofs.SignedLaws.{same-cents, cents-held}
 
@@ -98,10 +98,6 @@ abbrev named : Offer → List Offer → List ℕ → ℕ
 named x [] gs = 0
 named x (e ∷ es) [] = 0
 named x (e ∷ es) (g ∷ gs) = pick (sameName e x) g 0 + named x es gs
-
-pick-none : (b : Bool) → pick {A = ℕ} b 0 0 ≡ 0
-pick-none true = refl
-pick-none false = refl
 
 pick-plus : (b : Bool) (x y : ℕ) → pick b (x + y) 0 ≡ pick b x 0 + pick b y 0
 pick-plus true x y = refl

@@ -53,3 +53,7 @@ pick-same true true x y e h = h refl
 pick-same true false x y e h = absurd (true≢false e)
 pick-same false true x y e h = absurd (true≢false (sym e))
 pick-same false false x y e h = refl
+
+pub pick-none : (b : Bool) → pick {A = ℕ} b 0 0 ≡ 0
+pick-none true = refl
+pick-none false = refl
