@@ -11,3 +11,7 @@ pub mod MarketLaws
 pub mod ExecuteCases
 pub mod ExecuteLaws
 pub mod SilentLaws
+pub mod ServeLaws
+pub mod ClaimLaws
+pub mod IntakeLaws
+pub mod RunLaws

@@ -1,0 +1,100 @@
+-- Demand 3: every answer of every run.
+use mathlib.Core.Path.{_≡_, refl, ap, ap₂, sym, _∙_, subst}
+use mathlib.Core.Bool.{Bool, true, false, true≢false}
+use mathlib.Core.List.{List, [], _∷_, map}
+use Prim.Native.Nat.{ℕ, zero, suc, _+_, _-_, _≤_, _<_}
+use native.Mathlib.Decide.{ℕ-discrete}
+use native.Mathlib.Omega.{arith}
+use borrow.Author.Tests.{eq-eqb, ne-eqb}
+use lib.Dec.{eqb}
+use Rattle.rules.specs.Basics.{pick, firstOf}
+use Rattle.rules.specs.Strategy.{Strategy, openingRefusal}
+use Rattle.rules.specs.Messages.{Body, Message}
+use Rattle.rules.specs.Refusals.{refusal}
+use Rattle.rules.specs.State.{Clock, Auction, none, pending, State, taken}
+use Rattle.rules.specs.Execution.{Turn, Reply, still}
+use Rattle.rules.specs.Step.{Act, goesOn, begins, joining, ends, Intake, takeIn, quiet, follow, recordsOf, Answer, answered, accepted, turnedBack, step}
+use Rattle.rules.specs.Run.{Opened, refusedOpening, started, startOf, opening, Sent, answerTo, answers}
+use Rattle.rules.specs.Demand.{GoodTurn, Told, Good, Demand3OfRules}
+use Rattle.rules.proofs.Invariant.{Inv}
+use Rattle.rules.proofs.ServeLaws.{AllT, Apart, Kept, steps-kept, ending-kept}
+use Rattle.rules.proofs.ClaimLaws.{told}
+use Rattle.rules.proofs.IntakeLaws.{kind-none, taken-inv, taken-earlier, take-inv, take-clock, start-inv}
+
+still-kept : (n : ℕ) (s : State) → Inv s → Kept n (still s)
+still-kept n s v = record { inv = v; good = tt; apart = tt }
+
+quiet-kept : (s : State) (a : Auction) → Inv s → Kept (s .clock .next - 1) (quiet s a)
+quiet-kept s none v = steps-kept s v
+quiet-kept s (pending p) v = still-kept (s .clock .next - 1) s v
+
+follow-kept : (s : State) (a : Act) → Inv s → Kept (s .clock .next - 1) (follow s a)
+follow-kept s goesOn v = quiet-kept s (s .auction) v
+follow-kept s begins v = still-kept (s .clock .next - 1) s v
+follow-kept s joining v = still-kept (s .clock .next - 1) s v
+follow-kept s (ends c) v = ending-kept s v
+
+-- an answer: its records are told, and its state keeps the invariant
+pub record Fine (n : ℕ) (a : Answer) : Type 0 where
+  pub inv : Inv (a .state)
+  pub told : Told (GoodTurn n) (a .turns) (a .fills)
+
+answered-fine : (n : ℕ) (b : Body) (a : Act) (r : Reply) → Kept n r → Fine n (answered b a r)
+answered-fine n b a r k = record { inv = k .inv; told = told n (r .turns) (k .good) (k .apart) }
+
+accepted-fine : (s : State) (m : Message) (room : ℕ) → Inv s → refusal s m room ≡ 0 → Fine (s .clock .next) (accepted s m)
+unfolding accepted
+accepted-fine s m room v h =
+    let t : State = taken s (m .time) in
+    let i : Intake = takeIn t (m .body) in
+    let w : Inv (i .state) = take-inv t s (m .body) refl (omega arith) (taken-inv s (m .time) v) (taken-earlier s (m .time) v) (kind-none s m room h) in
+    let n : i .state .clock .next - 1 ≡ s .clock .next = ap (λ (c : Clock). c .next - 1) (take-clock t (m .body)) ∙ back (s .clock .next) in
+    answered-fine (s .clock .next) (m .body) (i .act) (follow (i .state) (i .act)) (subst (λ (x : ℕ). Kept x (follow (i .state) (i .act))) n (follow-kept (i .state) (i .act) w))
+  where
+    back : (x : ℕ) → x + 1 - 1 ≡ x
+    back x = omega arith
+
+pub step-fine : (s : State) (m : Message) (room : ℕ) → Inv s → Fine (s .clock .next) (step s m room)
+unfolding step
+step-fine s m room v =
+    elim (ℕ-discrete (refusal s m room) 0) [
+      | yes e ↦ rw (eq-eqb (refusal s m room) 0 e) (accepted-fine s m room v e)
+      | no n ↦ rw (ne-eqb (refusal s m room) 0 n) (record { inv = v; told = refl })
+    ]
+
+run-good : (s : State) (ms : List Sent) → Inv s → Good s ms (map (λ a. a .fills) (answers s ms))
+unfolding answers
+run-good s [] v = tt
+run-good s (m ∷ ms) v =
+    let f : Fine (s .clock .next) (answerTo s m) = step-fine s (m .message) (m .room) v in
+    (f .told, run-good (answerTo s m .state) ms (f .inv))
+
+abbrev stateOr : State → Opened → State
+stateOr d (refusedOpening n) = d
+stateOr d (started s) = s
+
+abbrev isStarted : Opened → Bool
+isStarted (refusedOpening n) = false
+isStarted (started s) = true
+
+-- an opening that gives a state is not refused, and gives the starting state
+pub opened : (o : Strategy) (s : State) → opening o ≡ started s → (openingRefusal o ≡ 0) × (startOf o ≡ s)
+unfolding opening
+opened o s h =
+    elim (ℕ-discrete (openingRefusal o) 0) [
+      | yes e ↦ (
+          let z : started (startOf o) ≡ started s = rw (eq-eqb (openingRefusal o) 0 e) at h in
+          (e, ap (stateOr s) z)
+          )
+      | no n ↦ (
+          let z : refusedOpening (openingRefusal o) ≡ started s = rw (ne-eqb (openingRefusal o) 0 n) at h in
+          absurd (true≢false (sym (ap isStarted z)))
+          )
+    ]
+
+pub opened-inv : (o : Strategy) (s : State) → opening o ≡ started s → Inv s
+opened-inv o s h = let p : (openingRefusal o ≡ 0) × (startOf o ≡ s) = opened o s h in subst Inv (p .1) (start-inv o (p .0))
+
+pub demand-3-of-rules : Demand3OfRules
+unfolding Demand3OfRules
+demand-3-of-rules o s h ms = run-good s ms (opened-inv o s h)
