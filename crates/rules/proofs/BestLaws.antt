@@ -122,10 +122,10 @@ key-of-place e f h = omega (arith, rank-small (e .rank), rank-small (f .rank))
 -- ---- the limit
 
 pub within-units : (k : ℕ) (e : Offer) → e .key ≤ k → upTo k e .units ≡ e .units
-within-units k e h = rw (le-leb (e .key) k h)
+within-units k e h = ap (λ (b : Bool). pick b (e .units) 0) (le-leb (e .key) k h)
 
 pub beyond-units : (k : ℕ) (e : Offer) → k < e .key → upTo k e .units ≡ 0
-beyond-units k e h = rw (lt-leb (e .key) k h)
+beyond-units k e h = ap (λ (b : Bool). pick b (e .units) 0) (lt-leb (e .key) k h)
 
 some-within : (k : ℕ) (e : Offer) (g : ℕ) → 0 < g → g ≤ upTo k e .units → e .key ≤ k
 some-within k e g p b =

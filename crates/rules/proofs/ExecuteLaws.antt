@@ -11,7 +11,7 @@ use Rattle.rules.specs.Prices.{mostHeld, cents}
 use Rattle.rules.specs.Book.{isQueued, Entry, withStage, lessUnits, found, find}
 use Rattle.rules.specs.State.{Auction, none, pending, State, contraPrice}
 use Rattle.rules.specs.Turn.{Contra, legs, entry, keyOf, Offer, places, turn, Fill, fillOf, fillsOf}
-use Rattle.rules.specs.Execution.{Mode, fromQueue, goingLive, legsPass, offersOf, legsOffers, interest, upTo, allUpTo, Turn, turnOf, stageAfter, executed, ready, offerOf, legsOffer}
+use Rattle.rules.specs.Execution.{Mode, fromQueue, goingLive, legsPass, offersOf, legsOffers, interest, upTo, allUpTo, Turn, turnOf, stageAfter, executed, ready, offerOf, legsOffer, bookGave, legsGave}
 use Rattle.rules.specs.Best.{Taker, Inside, Each, InLimit, Best, Keyed, NoneEarlier, ByArrival}
 use Rattle.rules.specs.Demand.{sameContra, wayOf, Named, Mark, takerOf, GoodTurn}
 use Rattle.rules.proofs.TurnLaws.{CutAt, turn-cut, turn-below, each-map, each-both}
@@ -155,15 +155,15 @@ executed-inv m i s o v h r =
     let same : o .id ≡ i = find-id i (s .book) o h in
     let order0 : t .order ≡ o = turn-order m s o in
     record {
-      order = settled-ordered (t .order .id) (sum (t .gave)) (stageAfter m) (s .book) (drop 1 (t .gave)) (v .order);
+      order = settled-ordered (t .order .id) (sum (t .gave)) (stageAfter m) (s .book) (bookGave m s t) (v .order);
       entries = settled-all (t .order .id) (sum (t .gave)) (stageAfter m) (FitEntry (s .clock .next)) (FitEntry (s .clock .next))
-          (λ e q k l. (l, q .1, q .2), λ e g q k l. (l, q .1, q .2)) (s .book) (drop 1 (t .gave)) (v .entries);
+          (λ e q k l. (l, q .1, q .2), λ e g q k l. (l, q .1, q .2)) (s .book) (bookGave m s t) (v .entries);
       queue = settled-all (t .order .id) (sum (t .gave)) (stageAfter m) (λ e. FitQueue (s .auction) e × (e .id ≡ i → e ≡ o)) (FitQueue (s .auction)) (
         λ e q k l. queue-stays m (s .auction) e (sum (t .gave)) (λ z. ap (λ (f : Entry). isQueued (f .stage)) (q .1 (k ∙ ap (λ (f : Entry). f .id) order0 ∙ same)) ∙ ready-queued m s o r z) (q .0),
         λ e g q k l. queue-less (s .auction) e g (q .0),
-      ) (s .book) (drop 1 (t .gave))
+      ) (s .book) (bookGave m s t)
           (all-both (FitQueue (s .auction)) (λ e. e .id ≡ i → e ≡ o) (s .book) (v .queue) (find-only i (s .book) o h (v .order)));
       legs = v .legs;
       few = v .few;
-      quotes = lower-fit (t .order .buy) (sum (take 1 (t .gave))) (s .strategy .legs) (s .market) (v .quotes);
+      quotes = lower-fit (t .order .buy) (legsGave m s t) (s .strategy .legs) (s .market) (v .quotes);
     }

@@ -19,9 +19,29 @@ abbrev pub Small : ℕ → List Part → Type 0
 Small t [] = Unit {0}
 Small t (p ∷ ps) = (p .left < t) × Small t ps
 
-top-pos : (xs : List ℕ) → 0 < sum xs → 0 < top xs
-top-pos [] h = omega arith
-top-pos (x ∷ xs) h = elim (ℕ-discrete x 0) [ yes e ↦ (let k : 0 < top xs = top-pos xs (omega arith) in omega arith) | no n ↦ omega arith ]
+-- no remainder is above m
+abbrev Most : ℕ → List Part → Type 0
+Most m [] = Unit {0}
+Most m (p ∷ ps) = (p .left ≤ m) × Most m ps
+
+most-more : (m n : ℕ) (ps : List Part) → m ≤ n → Most m ps → Most n ps
+most-more m n [] h c = tt
+most-more m n (p ∷ ps) h c = (omega (arith, c .0), most-more m n ps h (c .1))
+
+top-most : (ps : List Part) → Most (top (lefts ps)) ps
+top-most [] = tt
+top-most (p ∷ ps) = (omega arith, most-more (top (lefts ps)) (max (p .left) (top (lefts ps))) ps (omega arith) (top-most ps))
+
+most-none : (ps : List Part) → Most 0 ps → sum (lefts ps) ≡ 0
+most-none [] c = refl
+most-none (p ∷ ps) c = omega (arith, c .0, most-none ps (c .1))
+
+top-pos : (ps : List Part) → 0 < sum (lefts ps) → 0 < top (lefts ps)
+top-pos ps h =
+    elim (ℕ-discrete (top (lefts ps)) 0) [
+      | yes e ↦ absurd (omega (arith, most-none ps (rw e at (top-most ps))))
+      | no n ↦ omega arith
+    ]
 
 top-small : (t : ℕ) (ps : List Part) → 0 < t → Small t ps → top (lefts ps) < t
 top-small t [] h s = h
@@ -57,7 +77,7 @@ leftover-sum : (n t : ℕ) (ps : List Part) → 0 < t → Small t ps → n * t �
 leftover-sum zero t ps h s k = omega arith
 leftover-sum (suc n) t ps h s k =
     let m : ℕ = top (lefts ps) in
-    let pos : 0 < m = top-pos (lefts ps) (omega arith) in
+    let pos : 0 < m = top-pos ps (omega arith) in
     let small : m < t = top-small t ps h s in
     let got : sum (gots (one m ps)) ≡ suc (sum (gots ps)) = one-got ps m refl pos in
     let left : sum (lefts (one m ps)) + m ≡ sum (lefts ps) = one-left ps m refl pos in
@@ -95,7 +115,7 @@ leftover-near : (a t n : ℕ) (ss : List ℕ) (ps : List Part) → 0 < t → Sma
 leftover-near a t zero ss ps h s k c = c
 leftover-near a t (suc n) ss ps h s k c =
     let m : ℕ = top (lefts ps) in
-    let pos : 0 < m = top-pos (lefts ps) (omega arith) in
+    let pos : 0 < m = top-pos ps (omega arith) in
     let small : m < t = top-small t ps h s in
     let left : sum (lefts (one m ps)) + m ≡ sum (lefts ps) = one-left ps m refl pos in
     leftover-near a t n ss (one m ps) h (one-small t m ps h s) (omega arith) (one-near a t m ss ps pos c)
@@ -216,18 +236,6 @@ LeftPairs a t [] (p ∷ ps) = ⊥
 LeftPairs a t (s ∷ ss) [] = ⊥
 LeftPairs a t (s ∷ ss) (p ∷ ps) = LeftEach a t s (p .got) ss ps × LeftPairs a t ss ps
 
-abbrev Most : ℕ → List Part → Type 0
-Most m [] = Unit {0}
-Most m (p ∷ ps) = (p .left ≤ m) × Most m ps
-
-most-more : (m n : ℕ) (ps : List Part) → m ≤ n → Most m ps → Most n ps
-most-more m n [] h c = tt
-most-more m n (p ∷ ps) h c = (omega (arith, c .0), most-more m n ps h (c .1))
-
-top-most : (ps : List Part) → Most (top (lefts ps)) ps
-top-most [] = tt
-top-most (p ∷ ps) = (omega arith, most-more (top (lefts ps)) (max (p .left) (top (lefts ps))) ps (omega arith) (top-most ps))
-
 -- an earlier place that is not picked now, over later ones of which one may be
 rule-later : (a t m s x : ℕ) (p q : Part) → p .left < m → q .left ≡ m → NearAt a t s p → NearAt a t x q → LeftRule a t s (p .got) x (q .got + 1)
 rule-later a t m s x p q l e (inl c) (inl d) = (λ i j. omega (arith, c .1, d .1), λ i j. absurd (omega (arith, d .0)))
@@ -270,7 +278,7 @@ leftover-pairs : (a t n : ℕ) (ss : List ℕ) (ps : List Part) → 0 < t → Sm
 leftover-pairs a t zero ss ps h s k c r = r
 leftover-pairs a t (suc n) ss ps h s k c r =
     let m : ℕ = top (lefts ps) in
-    let pos : 0 < m = top-pos (lefts ps) (omega arith) in
+    let pos : 0 < m = top-pos ps (omega arith) in
     let small : m < t = top-small t ps h s in
     let left : sum (lefts (one m ps)) + m ≡ sum (lefts ps) = one-left ps m refl pos in
     leftover-pairs a t n ss (one m ps) h (one-small t m ps h s) (omega arith) (one-near a t m ss ps pos c) (one-pairs a t m ss ps pos (top-most ps) c r)

@@ -15,7 +15,7 @@ use Rattle.rules.specs.Prices.{Quote, Derived, derived, lower}
 use Rattle.rules.specs.Book.{Stage, held, live, queued, answer, isHeld, isLive, isQueued, isResponse, Entry, sameSide, withStage, lessUnits, Found, nobody, found, find, only, released, releasedAll, expired}
 use Rattle.rules.specs.State.{Auction, none, pending, Pending, State, contraPrice}
 use Rattle.rules.specs.Turn.{Offer, sizes, places, turn, fillsOf, keyOf}
-use Rattle.rules.specs.Execution.{Mode, fromQueue, goingLive, legsPass, opens, isWithin, isOpenTo, offerOf, offersOf, allUpTo, interest, Turn, turnOf, stageAfter, afterTurn, keep, settled, executed, ready}
+use Rattle.rules.specs.Execution.{Mode, fromQueue, goingLive, legsPass, opens, isWithin, isOpenTo, offerOf, offersOf, allUpTo, interest, Turn, turnOf, stageAfter, afterTurn, keep, settled, executed, ready, bookGave, legsGave}
 use Rattle.rules.specs.Step.{closed}
 use Rattle.rules.specs.Best.{Each}
 use Rattle.rules.proofs.BasicsLaws.{below-full, below-sum}
@@ -95,15 +95,15 @@ done-stays m i s o v d =
     let t : Turn = turnOf m s o in
     let j : ℕ = t .order .id in
     let n : ℕ = sum (t .gave) in
-    let book : List Entry = settled j n (stageAfter m) (s .book) (drop 1 (t .gave)) in
-    let legs′ : (e : Entry) → NoLegs s e → shown e (derived (e .buy) (s .strategy .legs) (lower (t .order .buy) (sum (take 1 (t .gave))) (s .strategy .legs) (s .market))) ≡ 0 =
-    λ e h. legs-less e (t .order .buy) (e .buy) (sum (take 1 (t .gave))) (s .strategy .legs) (s .market) (v .legs) h in
+    let book : List Entry = settled j n (stageAfter m) (s .book) (bookGave m s t) in
+    let legs′ : (e : Entry) → NoLegs s e → shown e (derived (e .buy) (s .strategy .legs) (lower (t .order .buy) (legsGave m s t) (s .strategy .legs) (s .market))) ≡ 0 =
+    λ e h. legs-less e (t .order .buy) (e .buy) (legsGave m s t) (s .strategy .legs) (s .market) (v .legs) h in
     let book′ : (e : Entry) → NoBook s e → AllE (λ f. crosses e f ≡ false) book =
-    λ e h. settled-all j n (stageAfter m) (λ f. crosses e f ≡ false) (λ f. crosses e f ≡ false) (λ f q k l. q, λ f g q k l. q) (s .book) (drop 1 (t .gave)) h in
+    λ e h. settled-all j n (stageAfter m) (λ f. crosses e f ≡ false) (λ f. crosses e f ≡ false) (λ f q k l. q, λ f g q k l. q) (s .book) (bookGave m s t) h in
     settled-all j n (stageAfter m) (λ e. e .id ≡ i → NoLegs s e × NoBook s e)
-    (λ e. e .id ≡ i → (shown e (derived (e .buy) (s .strategy .legs) (lower (t .order .buy) (sum (take 1 (t .gave))) (s .strategy .legs) (s .market))) ≡ 0) × AllE (λ f. crosses e f ≡ false) book)
+    (λ e. e .id ≡ i → (shown e (derived (e .buy) (s .strategy .legs) (lower (t .order .buy) (legsGave m s t) (s .strategy .legs) (s .market))) ≡ 0) × AllE (λ f. crosses e f ≡ false) book)
     (λ e q k l z. (legs′ e (q z .0), book′ e (q z .1)), λ e g q k l z. (legs′ e (q z .0), book′ e (q z .1)))
-    (s .book) (drop 1 (t .gave)) d
+    (s .book) (bookGave m s t) d
 
 pub rested-stays : (m : Mode) (i : ℕ) (s : State) (o : Entry) → stageAfter m ≡ live → Inv s → Rested i s → Rested i (executed m s (turnOf m s o))
 unfolding executed
@@ -111,15 +111,15 @@ rested-stays m i s o w v d =
     let t : Turn = turnOf m s o in
     let j : ℕ = t .order .id in
     let n : ℕ = sum (t .gave) in
-    let book : List Entry = settled j n (stageAfter m) (s .book) (drop 1 (t .gave)) in
-    let legs′ : (e : Entry) → NoLegs s e → shown e (derived (e .buy) (s .strategy .legs) (lower (t .order .buy) (sum (take 1 (t .gave))) (s .strategy .legs) (s .market))) ≡ 0 =
-    λ e h. legs-less e (t .order .buy) (e .buy) (sum (take 1 (t .gave))) (s .strategy .legs) (s .market) (v .legs) h in
+    let book : List Entry = settled j n (stageAfter m) (s .book) (bookGave m s t) in
+    let legs′ : (e : Entry) → NoLegs s e → shown e (derived (e .buy) (s .strategy .legs) (lower (t .order .buy) (legsGave m s t) (s .strategy .legs) (s .market))) ≡ 0 =
+    λ e h. legs-less e (t .order .buy) (e .buy) (legsGave m s t) (s .strategy .legs) (s .market) (v .legs) h in
     let book′ : (e : Entry) → NoBook s e → AllE (λ f. crosses e f ≡ false) book =
-    λ e h. settled-all j n (stageAfter m) (λ f. crosses e f ≡ false) (λ f. crosses e f ≡ false) (λ f q k l. q, λ f g q k l. q) (s .book) (drop 1 (t .gave)) h in
+    λ e h. settled-all j n (stageAfter m) (λ f. crosses e f ≡ false) (λ f. crosses e f ≡ false) (λ f q k l. q, λ f g q k l. q) (s .book) (bookGave m s t) h in
     settled-all j n (stageAfter m) (λ e. e .id ≡ i → NoLegs s e × ((isLive (e .stage) ≡ true) ⊎ NoBook s e))
-    (λ e. e .id ≡ i → (shown e (derived (e .buy) (s .strategy .legs) (lower (t .order .buy) (sum (take 1 (t .gave))) (s .strategy .legs) (s .market))) ≡ 0) × ((isLive (e .stage) ≡ true) ⊎ AllE (λ f. crosses e f ≡ false) book))
+    (λ e. e .id ≡ i → (shown e (derived (e .buy) (s .strategy .legs) (lower (t .order .buy) (legsGave m s t) (s .strategy .legs) (s .market))) ≡ 0) × ((isLive (e .stage) ≡ true) ⊎ AllE (λ f. crosses e f ≡ false) book))
     (λ e q k l z. (legs′ e (q z .0), inl (ap isLive w)), λ e g q k l z. (legs′ e (q z .0), elim (q z .1) [ inl a ↦ inl a | inr b ↦ inr (book′ e b) ]))
-    (s .book) (drop 1 (t .gave)) d
+    (s .book) (bookGave m s t) d
 
 pub closed-done : (i : ℕ) (s : State) → Done i s → Done i (closed s)
 closed-done i s d =
@@ -140,12 +140,12 @@ unfolding turnOf
 all-given m s o h =
     below-full (turn (o .units) (reach m s o)) (sizes (reach m s o)) (turn-below (o .units) (reach m s o)) (omega (arith, turn-sum (o .units) (reach m s o)))
 
-legs-given : (m : Mode) (s : State) (o : Entry) → 0 < o .units - sum (turnOf m s o .gave) → sum (take 1 (turnOf m s o .gave)) ≡ shown o (contraPrice s (o .buy))
+legs-given : (m : Mode) (s : State) (o : Entry) → 0 < o .units - sum (turnOf m s o .gave) → legsGave m s (turnOf m s o) ≡ shown o (contraPrice s (o .buy))
 unfolding interest
 legs-given m s o h = rw (all-given m s o h) (omega arith)
 
 legs-after : (m : Mode) (s : State) (o : Entry) → Inv s → 0 < o .units - sum (turnOf m s o .gave)
-    → shown o (derived (o .buy) (s .strategy .legs) (lower (o .buy) (sum (take 1 (turnOf m s o .gave))) (s .strategy .legs) (s .market))) ≡ 0
+    → shown o (derived (o .buy) (s .strategy .legs) (lower (o .buy) (legsGave m s (turnOf m s o)) (s .strategy .legs) (s .market))) ≡ 0
 legs-after m s o v h = rw (legs-given m s o h) (legs-gone o (o .buy) (s .strategy .legs) (s .market) (v .legs))
 
 -- rested after going live, and after the legs' pass
@@ -154,8 +154,8 @@ unfolding executed
 rested-after m i s o w v h =
     let t : Turn = turnOf m s o in
     let n : ℕ = sum (t .gave) in
-    let market : List Quote = lower (o .buy) (sum (take 1 (t .gave))) (s .strategy .legs) (s .market) in
-    let book : List Entry = settled (o .id) n (stageAfter m) (s .book) (drop 1 (t .gave)) in
+    let market : List Quote = lower (o .buy) (legsGave m s t) (s .strategy .legs) (s .market) in
+    let book : List Entry = settled (o .id) n (stageAfter m) (s .book) (bookGave m s t) in
     rw (turn-order m s o)
     (settled-all (o .id) n (stageAfter m) (λ e. e .id ≡ i → e ≡ o)
     (λ e. e .id ≡ o .id → (shown e (derived (e .buy) (s .strategy .legs) market) ≡ 0) × ((isLive (e .stage) ≡ true) ⊎ AllE (λ f. crosses e f ≡ false) book)) (
@@ -168,7 +168,7 @@ rested-after m i s o w v h =
           ),
       λ e g q k l z. absurd (k z),
     )
-    (s .book) (drop 1 (t .gave)) (find-only i (s .book) o h (v .order)))
+    (s .book) (bookGave m s t) (find-only i (s .book) o h (v .order)))
 
 self-side : (b : Bool) → sameSide b b ≡ true
 self-side true = refl
@@ -227,7 +227,7 @@ one-side : (a : Auction) (o e : Entry) → isQueued (o .stage) ≡ true → FitQ
 one-side none o e q f g h = absurd (true≢false (sym q ∙ f))
 one-side (pending p) o e q f g h = g h ∙ sym (f q)
 
-tail-given : (s : State) (o : Entry) → 0 < o .units - sum (turnOf fromQueue s o .gave) → drop 1 (turnOf fromQueue s o .gave) ≡ sizes (allUpTo (keyOf (o .buy) (o .price)) (offersOf fromQueue o (s .book)))
+tail-given : (s : State) (o : Entry) → 0 < o .units - sum (turnOf fromQueue s o .gave) → bookGave fromQueue s (turnOf fromQueue s o) ≡ sizes (allUpTo (keyOf (o .buy) (o .price)) (offersOf fromQueue o (s .book)))
 unfolding interest
 tail-given s o h = rw (all-given fromQueue s o h)
 
@@ -236,8 +236,8 @@ unfolding executed
 done-after i s o v h r =
     let t : Turn = turnOf fromQueue s o in
     let n : ℕ = sum (t .gave) in
-    let market : List Quote = lower (o .buy) (sum (take 1 (t .gave))) (s .strategy .legs) (s .market) in
-    let book : List Entry = settled (o .id) n queued (s .book) (drop 1 (t .gave)) in
+    let market : List Quote = lower (o .buy) (legsGave fromQueue s t) (s .strategy .legs) (s .market) in
+    let book : List Entry = settled (o .id) n queued (s .book) (bookGave fromQueue s t) in
     let mine : FitQueue (s .auction) o = find-all (FitQueue (s .auction)) i (s .book) o h (v .queue) in
     let only′ : AllE (λ e. e .id ≡ i → e ≡ o) (s .book) = find-only i (s .book) o h (v .order) in
     let id′ : o .id ≡ i = find-id i (s .book) o h in
@@ -257,7 +257,7 @@ done-after i s o v h r =
           ),
       λ e g q k l z. absurd (k z),
     )
-    (s .book) (drop 1 (t .gave)) only′)
+    (s .book) (bookGave fromQueue s t) only′)
 
 -- ---- no record where nothing is open
 

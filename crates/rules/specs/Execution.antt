@@ -114,13 +114,20 @@ settled i n t [] gs = []
 settled i n t (e ∷ es) [] = keep (afterTurn i n t e 0) (settled i n t es [])
 settled i n t (e ∷ es) (g ∷ gs) = keep (afterTurn i n t e g) (settled i n t es gs)
 
--- the state after a turn: the legs less what their offers gave, the book less what the others gave
+-- the units that the legs gave
+abbrev pub legsGave : Mode → State → Turn → ℕ
+legsGave m s t = sum (take (length (legsOffers m s (t .order))) (t .gave))
+
+-- the units that each entry of the book gave
+abbrev pub bookGave : Mode → State → Turn → List ℕ
+bookGave m s t = drop (length (legsOffers m s (t .order))) (t .gave)
+
+-- the state after a turn
 unfoldable pub executed : Mode → State → Turn → State
 executed m s t =
     let o = t .order in
-    let n = length (legsOffers m s o) in
-    withBook (withMarket s (lower (o .buy) (sum (take n (t .gave))) (s .strategy .legs) (s .market)))
-    (settled (o .id) (sum (t .gave)) (stageAfter m) (s .book) (drop n (t .gave)))
+    withBook (withMarket s (lower (o .buy) (legsGave m s t) (s .strategy .legs) (s .market)))
+    (settled (o .id) (sum (t .gave)) (stageAfter m) (s .book) (bookGave m s t))
 
 -- a state, and the turns that led to it
 pub record Reply : Type 0 where
