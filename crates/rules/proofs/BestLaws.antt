@@ -1,16 +1,15 @@
 -- What a turn gives of all that is open is the best way within the limit: from keys and places to prices, ranks, arrivals and signed cents.
 use mathlib.Core.Path.{_≡_, refl, ap, ap₂, sym, _∙_}
 use mathlib.Core.Bool.{Bool, true, false, _&&_, _||_}
-use mathlib.Core.Logic.{_⊎_, inl, inr}
 use mathlib.Core.List.{List, [], _∷_}
-use Prim.Native.Nat.{ℕ, zero, suc, _+_, _-_, _*_, _/_, _%_, _≤_, _<_, min}
+use Prim.Native.Nat.{ℕ, _+_, _-_, _*_, _%_, _≤_, _<_}
 use native.Mathlib.Decide.{ℕ-discrete, decLt, decLe}
 use native.Mathlib.Omega.{arith}
 use borrow.Author.Tests.{eq-eqb, ne-eqb, lt-ltb, le-ltb, le-leb, lt-leb}
-use lib.Dec.{eqb, ltb, leb}
+use lib.Dec.{eqb, ltb}
 use Rattle.rules.specs.Basics.{pick, sum, Below}
-use Rattle.rules.specs.Prices.{mostHeld, cents}
-use Rattle.rules.specs.Turn.{Rank, L, C, N, T, R, rankNumber, keyOf, Offer, place, sizeAt, sizesAt, sizes, isShared, deal, places, turn}
+use Rattle.rules.specs.Prices.{mostHeld}
+use Rattle.rules.specs.Turn.{Rank, L, C, N, T, R, rankNumber, keyOf, Offer, place, sizesAt, sizes, isShared, deal, places, turn}
 use Rattle.rules.specs.Execution.{upTo, allUpTo}
 use Rattle.rules.specs.Sharing.{RoundedTo, LeftRule, LeftTo, LeftAll}
 use Rattle.rules.specs.Best.{Taker, Each, Any2, InLimit, Way, ranksAfter, sameRank, oneOf, cheaper, isBefore, isBeside, unitsWhere, totalAt, amountAt, isSharedRank, Sharing, Best, Keyed, NoneEarlier, ByArrival, TurnIsBest}

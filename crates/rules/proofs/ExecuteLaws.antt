@@ -1,22 +1,21 @@
 -- One execution: the turn is good, and the invariant is kept.
 use mathlib.Core.Path.{_≡_, refl, ap, sym, _∙_, subst}
-use mathlib.Core.Bool.{Bool, true, false, not, true≢false}
+use mathlib.Core.Bool.{Bool, true, false, true≢false}
 use mathlib.Core.List.{List, [], _∷_}
-use mathlib.Core.Logic.{_⊎_, inl, inr}
+use mathlib.Core.Logic.{inl, inr}
 use Prim.Native.Nat.{ℕ, _-_, _≤_, _<_}
 use native.Mathlib.Omega.{arith}
-use lib.ListN.{length, take, drop}
 use Rattle.rules.specs.Basics.{sum}
-use Rattle.rules.specs.Prices.{mostHeld, cents}
+use Rattle.rules.specs.Prices.{mostHeld}
 use Rattle.rules.specs.Book.{isQueued, Entry, withStage, lessUnits, found, find}
 use Rattle.rules.specs.State.{Auction, none, pending, State, contraPrice}
 use Rattle.rules.specs.Turn.{Contra, legs, entry, keyOf, Offer, places, turn, Fill, fillOf, fillsOf}
-use Rattle.rules.specs.Execution.{Mode, fromQueue, goingLive, legsPass, offersOf, legsOffers, interest, upTo, allUpTo, Turn, turnOf, stageAfter, executed, ready, offerOf, legsOffer, bookGave, legsGave}
-use Rattle.rules.specs.Best.{Taker, Inside, Each, InLimit, Best, Keyed, NoneEarlier, ByArrival}
+use Rattle.rules.specs.Execution.{Mode, fromQueue, goingLive, legsPass, offersOf, interest, upTo, allUpTo, Turn, turnOf, stageAfter, executed, ready, offerOf, legsOffer, bookGave, legsGave}
+use Rattle.rules.specs.Best.{Taker, Each, InLimit, Best, Keyed, NoneEarlier, ByArrival}
 use Rattle.rules.specs.Demand.{sameContra, wayOf, Named, Mark, takerOf, GoodTurn}
 use Rattle.rules.proofs.TurnLaws.{CutAt, turn-cut, turn-below, each-map, each-both}
 use Rattle.rules.proofs.BestLaws.{best}
-use Rattle.rules.proofs.RecordLaws.{Apart, AllApart, Distinct, records-way, way-upTo, records-once, all-of, each-named}
+use Rattle.rules.proofs.RecordLaws.{AllApart, Distinct, records-way, way-upTo, records-once, all-of, each-named}
 use Rattle.rules.proofs.Invariant.{AllE, Ordered, FitEntry, FitQueue, Inv, all-both, settled-all, settled-ordered, find-id, find-only}
 use Rattle.rules.proofs.MarketLaws.{derived-fit, lower-fit}
 

@@ -1,48 +1,33 @@
 -- A message that is not refused, taken in, keeps the invariant.
-use mathlib.Core.Path.{_≡_, refl, ap, ap₂, sym, _∙_, subst}
+use mathlib.Core.Path.{_≡_, refl, ap, sym, _∙_, subst}
 use mathlib.Core.Bool.{Bool, true, false, _&&_, _||_, not, true≢false}
-use mathlib.Core.List.{List, [], _∷_, _++_, append-nil}
-use Prim.Native.Nat.{ℕ, zero, suc, _+_, _-_, _*_, _≤_, _<_}
-use native.Mathlib.Decide.{ℕ-discrete, decLt, decLe}
+use mathlib.Core.List.{List, [], _∷_, _++_}
+use Prim.Native.Nat.{ℕ, zero, suc, _+_, _-_, _≤_, _<_}
+use native.Mathlib.Decide.{ℕ-discrete}
 use native.Mathlib.Omega.{arith}
-use borrow.Author.Tests.{eq-eqb, ne-eqb, lt-ltb, le-ltb, le-leb, lt-leb}
-use lib.Dec.{eqb, ltb, leb}
+use borrow.Author.Tests.{eq-eqb, ne-eqb}
+use lib.Dec.{eqb, ltb}
 use lib.IntN.{ℤ, pos, negsuc}
 use lib.ListN.{length}
-use Rattle.rules.specs.Basics.{pick, between, Rule, rule, firstOf}
-use Rattle.rules.specs.Strategy.{Leg, Settings, Strategy, isB, goodSide, allLegs, allPairs, nearRatio, goodRatios, gcdAll, sameRoot, otherSymbol, goodMpv, goodSettings, openingRefusal, mostNumber, mostTime}
-use Rattle.rules.specs.Series.{goodSymbol, onThirdFriday}
-use Rattle.rules.specs.Prices.{Side, Quote, isLimit, offset, mostHeld, mostCents}
-use Rattle.rules.specs.Filter.{filtered}
-use Rattle.rules.specs.Book.{Stage, held, live, queued, answer, isQueued, isResponse, Entry, sameSide, withStage, Found, nobody, found, find, any, count, only, without, added, mostOrders, mostEntries, mostResponses}
-use Rattle.rules.specs.Messages.{Local, National, Terms, Change, Body, local, national, order, response, modify, cancel, clock, Message}
-use Rattle.rules.specs.Refusals.{everyRow, kindRow, goodLocal, goodNational, natural, crossed, goodFields, goodTerms, goodChange, isOrder, isOpen, ofParticipant, isClock, refusal, leastRoom}
-use Rattle.rules.specs.State.{Clock, Pending, Auction, none, pending, State, withMarket, withBook, withAuction, taken, reached, isPending}
+use Rattle.rules.specs.Basics.{pick, between, firstOf}
+use Rattle.rules.specs.Strategy.{Leg, Strategy, goodSide, allLegs, allPairs, nearRatio, goodRatios, gcdAll, openingRefusal, openingRow}
+use Rattle.rules.specs.Prices.{Quote, isLimit, offset, mostHeld, mostCents}
+use Rattle.rules.specs.Book.{held, queued, answer, isQueued, Entry, sameSide, withStage, Found, nobody, found, find, any, only, without, added, mostEntries}
+use Rattle.rules.specs.Messages.{Terms, Change, Body, local, national, order, response, modify, cancel, clock, Message}
+use Rattle.rules.specs.Refusals.{everyRow, kindRow, goodLocal, goodNational, natural, goodFields, goodTerms, goodChange, refusal, localRow, nationalRow, orderRow, responseRow, modifyRow}
+use Rattle.rules.specs.State.{Pending, Auction, none, pending, State, withMarket, withBook, withAuction, taken}
 use Rattle.rules.specs.Auction.{eligible, auctionOf, endsByOrder, joins}
-use Rattle.rules.specs.Outcome.{byTime, byOrder, byLegs}
-use Rattle.rules.specs.Step.{Intake, intake, goesOn, begins, joining, ends, localQuote, nationalQuote, changed, entryOf, modified, withNew, orderIntake, takeIn, modifiedEntry}
-use Rattle.rules.specs.Run.{absent, noQuotes, startOf}
+use Rattle.rules.specs.Outcome.{byOrder}
+use Rattle.rules.specs.Step.{intake, goesOn, begins, joining, ends, localQuote, nationalQuote, changed, entryOf, modified, withNew, orderIntake, takeIn, modifiedEntry}
+use Rattle.rules.specs.Run.{noQuotes, startOf}
 use Rattle.rules.proofs.TestLaws.{le-of, eq-of, and-left, and-right, not-true, between-low, between-high}
-use Rattle.rules.proofs.Invariant.{AllE, Ordered, FitEntry, FitQueue, FitLegs, FitQuotes, Inv, all-map, all-both, all-append, all-only, ordered-only, ordered-last, find-all, find-id}
-
--- ---- reading a table's answer
-
-pub first-none : (n : ℕ) (b : Bool) (rs : List Rule) → 0 < n → firstOf (rule n b ∷ rs) ≡ 0 → (b ≡ false) × (firstOf rs ≡ 0)
-first-none n true rs p h = absurd (omega arith)
-first-none n false rs p h = (refl, h)
+use Rattle.rules.proofs.Invariant.{AllE, Ordered, FitEntry, FitQueue, FitLegs, FitQuotes, Inv, all-map, all-both, all-append, all-only, ordered-only, ordered-last, find-id, FitQuote}
+use Rattle.rules.proofs.RowLaws.{none-after, NoneOf, none-of}
 
 -- the row of the message's kind refuses nothing where the whole table does not
 pub kind-none : (s : State) (m : Message) (room : ℕ) → refusal s m room ≡ 0 → firstOf (kindRow s (m .body)) ≡ 0
 unfolding refusal
-kind-none s m room h =
-    let r : List Rule = kindRow s (m .body) in
-    let b13 : Bool = reached (s .auction) (m .time) && not (isClock (m .body)) in
-    let b12 : Bool = ltb mostNumber (s .clock .next) in
-    let b11 : Bool = ltb mostTime (m .time) || ltb (m .time) (s .clock .time) in
-    let h10 = first-none 10 (ltb room leastRoom) (rule 11 b11 ∷ rule 12 b12 ∷ rule 13 b13 ∷ r) (omega arith) h in
-    let h11 = first-none 11 b11 (rule 12 b12 ∷ rule 13 b13 ∷ r) (omega arith) (h10 .1) in
-    let h12 = first-none 12 b12 (rule 13 b13 ∷ r) (omega arith) (h11 .1) in
-    first-none 13 b13 r (omega arith) (h12 .1) .1
+kind-none s m room h = none-after (everyRow s m room) (kindRow s (m .body)) refl h
 
 -- ---- fields
 
@@ -57,6 +42,10 @@ local-fit (pos p) n h = go (between 1 p 999_999) refl (between 1 n 999_999) h
     go : (b : Bool) → between 1 p 999_999 ≡ b → (c : Bool) → ((b && c) || (eqb p 0 && eqb n 0)) ≡ true → p ≤ 999_999
     go true e c k = between-high 1 p 999_999 e
     go false e c k = omega (arith, eq-of p 0 (and-left (eqb p 0) (eqb n 0) k))
+
+national-fit : (z : ℤ) → goodNational z ≡ true → natural z ≤ 999_999
+national-fit (pos p) h = le-of p 999_999 h
+national-fit (negsuc p) h = omega arith
 
 -- units and price of good fields
 fields-price : (side i p u : ℕ) (z : ℤ) → goodFields side i p u z ≡ true → isLimit z ≡ true
@@ -163,7 +152,7 @@ same-side false false h = refl
 
 -- ---- quotes
 
-changed-fit : (f : Quote → Quote) → ((q : Quote) → (q .bid .price ≤ 999_999) × (q .ask .price ≤ 999_999) → (f q .bid .price ≤ 999_999) × (f q .ask .price ≤ 999_999)) → (k : ℕ) (qs : List Quote) → FitQuotes qs → FitQuotes (changed f k qs)
+changed-fit : (f : Quote → Quote) → ((q : Quote) → FitQuote q → FitQuote (f q)) → (k : ℕ) (qs : List Quote) → FitQuotes qs → FitQuotes (changed f k qs)
 changed-fit f c k [] h = tt
 changed-fit f c zero (q ∷ qs) h = (c q (h .0), h .1)
 changed-fit f c (suc k) (q ∷ qs) h = (h .0, changed-fit f c k qs (h .1))
@@ -218,35 +207,31 @@ modify-inv s c (found e) h nx v b g =
 pub take-inv : (s : State) (r : State) (b : Body) → r .book ≡ s .book → 0 < s .clock .next → Inv s → Earlier s → firstOf (kindRow r b) ≡ 0 → Inv (takeIn s b .state)
 unfolding takeIn
 take-inv s r (local q) k nx v b h =
-    let h1 = first-none 20 (leb (length (r .strategy .legs)) (q .leg)) (rule 21 (not (goodLocal (q .bid) (q .bidSize) && goodLocal (q .ask) (q .askSize))) ∷ rule 22 (crossed q) ∷ []) (omega arith) h .1 in
-    let h2 = first-none 21 (not (goodLocal (q .bid) (q .bidSize) && goodLocal (q .ask) (q .askSize))) (rule 22 (crossed q) ∷ []) (omega arith) h1 .0 in
-    let g : (goodLocal (q .bid) (q .bidSize) && goodLocal (q .ask) (q .askSize)) ≡ true = not-true (goodLocal (q .bid) (q .bidSize) && goodLocal (q .ask) (q .askSize)) h2 in
-    market-inv s (changed (localQuote q) (q .leg) (s .market)) v
-    (changed-fit (localQuote q)
-    (λ x p. (local-fit (q .bid) (q .bidSize) (and-left (goodLocal (q .bid) (q .bidSize)) (goodLocal (q .ask) (q .askSize)) g), local-fit (q .ask) (q .askSize) (and-right (goodLocal (q .bid) (q .bidSize)) (goodLocal (q .ask) (q .askSize)) g)))
-    (q .leg) (s .market) (v .quotes))
-take-inv s r (national q) k nx v b h = market-inv s (changed (nationalQuote q) (q .leg) (s .market)) v (changed-fit (nationalQuote q) (λ x p. p) (q .leg) (s .market) (v .quotes))
+    let n : NoneOf (localRow r q) = none-of (localRow r q) refl h in
+    let g : (goodLocal (q .bid) (q .bidSize) && goodLocal (q .ask) (q .askSize)) ≡ true = not-true (goodLocal (q .bid) (q .bidSize) && goodLocal (q .ask) (q .askSize)) (n .1 .0) in
+    let bid : natural (q .bid) ≤ 999_999 = local-fit (q .bid) (q .bidSize) (and-left (goodLocal (q .bid) (q .bidSize)) (goodLocal (q .ask) (q .askSize)) g) in
+    let ask : natural (q .ask) ≤ 999_999 = local-fit (q .ask) (q .askSize) (and-right (goodLocal (q .bid) (q .bidSize)) (goodLocal (q .ask) (q .askSize)) g) in
+    market-inv s (changed (localQuote q) (q .leg) (s .market)) v (changed-fit (localQuote q) (λ x p. (bid, ask, p .2, p .3)) (q .leg) (s .market) (v .quotes))
+take-inv s r (national q) k nx v b h =
+    let n : NoneOf (nationalRow r q) = none-of (nationalRow r q) refl h in
+    let g : (goodNational (q .bid) && goodNational (q .ask)) ≡ true = not-true (goodNational (q .bid) && goodNational (q .ask)) (n .1 .0) in
+    let bid : natural (q .bid) ≤ 999_999 = national-fit (q .bid) (and-left (goodNational (q .bid)) (goodNational (q .ask)) g) in
+    let ask : natural (q .ask) ≤ 999_999 = national-fit (q .ask) (and-right (goodNational (q .bid)) (goodNational (q .ask)) g) in
+    market-inv s (changed (nationalQuote q) (q .leg) (s .market)) v (changed-fit (nationalQuote q) (λ x p. (p .0, p .1, bid, ask)) (q .leg) (s .market) (v .quotes))
 take-inv s r (order t w) k nx v b h =
-    let rest2 : List Rule = rule 32 (leb mostOrders (count isOrder (r .book))) ∷ rule 33 (filtered (r .strategy) (r .market) (isB (t .side)) (offset (t .price))) ∷ [] in
-    let h1 = first-none 30 (not (goodTerms t)) (rule 31 (isOpen (t .id) r) ∷ rest2) (omega arith) h in
-    let f : goodFields (t .side) (t .id) (t .participant) (t .units) (t .price) ≡ true = terms-fields t (not-true (goodTerms t) (h1 .0)) in
-    let n : isOpen (t .id) r ≡ false = first-none 31 (isOpen (t .id) r) rest2 (omega arith) (h1 .1) .0 in
+    let n : NoneOf (orderRow r t) = none-of (orderRow r t) refl h in
+    let f : goodFields (t .side) (t .id) (t .participant) (t .units) (t .price) ≡ true = terms-fields t (not-true (goodTerms t) (n .0)) in
     order-inv s (s .auction) t w refl nx v b (fields-units (t .side) (t .id) (t .participant) (t .units) (t .price) f)
-    (offset-fit (t .price) (fields-price (t .side) (t .id) (t .participant) (t .units) (t .price) f)) (subst (λ (es : List Entry). AllE (λ e. t .id ≡ e .id → ⊥) es) k (not-open (t .id) (r .book) n))
+    (offset-fit (t .price) (fields-price (t .side) (t .id) (t .participant) (t .units) (t .price) f)) (subst (λ (es : List Entry). AllE (λ e. t .id ≡ e .id → ⊥) es) k (not-open (t .id) (r .book) (n .1 .0)))
 take-inv s r (response t) k nx v b h =
-    let rest2 : List Rule = rule 43 (leb mostResponses (count (λ e. isResponse (e .stage)) (r .book))) ∷ [] in
-    let h0 = first-none 40 (not (isPending (r .auction))) (rule 41 (not (goodTerms t)) ∷ rule 42 (isOpen (t .id) r) ∷ rest2) (omega arith) h .1 in
-    let h1 = first-none 41 (not (goodTerms t)) (rule 42 (isOpen (t .id) r) ∷ rest2) (omega arith) h0 in
-    let f : goodFields (t .side) (t .id) (t .participant) (t .units) (t .price) ≡ true = terms-fields t (not-true (goodTerms t) (h1 .0)) in
-    let n : isOpen (t .id) r ≡ false = first-none 42 (isOpen (t .id) r) rest2 (omega arith) (h1 .1) .0 in
+    let n : NoneOf (responseRow r t) = none-of (responseRow r t) refl h in
+    let f : goodFields (t .side) (t .id) (t .participant) (t .units) (t .price) ≡ true = terms-fields t (not-true (goodTerms t) (n .1 .0)) in
     added-inv s (s .auction) (entryOf t (s .clock .next - 1) answer) v b refl (omega arith) (fields-units (t .side) (t .id) (t .participant) (t .units) (t .price) f)
-    (offset-fit (t .price) (fields-price (t .side) (t .id) (t .participant) (t .units) (t .price) f)) (subst (λ (es : List Entry). AllE (λ e. t .id ≡ e .id → ⊥) es) k (not-open (t .id) (r .book) n))
+    (offset-fit (t .price) (fields-price (t .side) (t .id) (t .participant) (t .units) (t .price) f)) (subst (λ (es : List Entry). AllE (λ e. t .id ≡ e .id → ⊥) es) k (not-open (t .id) (r .book) (n .1 .1 .0)))
     (v .queue) (answer-fit (s .auction) (entryOf t (s .clock .next - 1) answer) refl)
 take-inv s r (modify c) k nx v b h =
-    let rest2 : List Rule = rule 42 (not (any (λ e. isResponse (e .stage) && ofParticipant (c .id) (c .participant) e) (r .book))) ∷ [] in
-    let h0 = first-none 40 (not (isPending (r .auction))) (rule 41 (not (goodChange c)) ∷ rest2) (omega arith) h .1 in
-    let h1 = first-none 41 (not (goodChange c)) rest2 (omega arith) h0 .0 in
-    modify-inv s c (find (c .id) (s .book)) refl nx v b (not-true (goodChange c) h1)
+    let n : NoneOf (modifyRow r c) = none-of (modifyRow r c) refl h in
+    modify-inv s c (find (c .id) (s .book)) refl nx v b (not-true (goodChange c) (n .1 .0))
 take-inv s r (cancel i p) k nx v b h = without-inv s i v
 take-inv s r clock k nx v b h = v
 
@@ -287,24 +272,13 @@ legs-fit (l ∷ ls) h =
 
 quotes-fit : (ls : List Leg) → FitQuotes (noQuotes ls)
 quotes-fit [] = tt
-quotes-fit (l ∷ ls) = ((omega arith, omega arith), quotes-fit ls)
+quotes-fit (l ∷ ls) = ((omega arith, omega arith, omega arith, omega arith), quotes-fit ls)
 
 start-rows : (o : Strategy) → openingRefusal o ≡ 0 → (length (o .legs) ≤ 4) × (goodRatios (o .legs) ≡ true)
 unfolding openingRefusal
 start-rows o h =
-    let ls : List Leg = o .legs in
-    let r7 : List Rule = rule 7 (not (goodSettings (o .settings))) ∷ [] in
-    let r6 : List Rule = rule 6 (not (allLegs (λ l. goodSide (l .side) && goodMpv (l .mpv)) ls)) ∷ r7 in
-    let r5 : List Rule = rule 5 (not (goodRatios ls)) ∷ r6 in
-    let r4 : List Rule = rule 4 (not (allPairs sameRoot ls && allPairs otherSymbol ls)) ∷ r5 in
-    let r3 : List Rule = rule 3 (not (allLegs (λ l. onThirdFriday (l .symbol)) ls)) ∷ r4 in
-    let r2 : List Rule = rule 2 (not (allLegs (λ l. goodSymbol (l .symbol)) ls)) ∷ r3 in
-    let h1 = first-none 1 (not (between 2 (length ls) 4)) r2 (omega arith) h in
-    let h2 = first-none 2 (not (allLegs (λ l. goodSymbol (l .symbol)) ls)) r3 (omega arith) (h1 .1) in
-    let h3 = first-none 3 (not (allLegs (λ l. onThirdFriday (l .symbol)) ls)) r4 (omega arith) (h2 .1) in
-    let h4 = first-none 4 (not (allPairs sameRoot ls && allPairs otherSymbol ls)) r5 (omega arith) (h3 .1) in
-    let h5 = first-none 5 (not (goodRatios ls)) r6 (omega arith) (h4 .1) in
-    (between-high 2 (length ls) 4 (not-true (between 2 (length ls) 4) (h1 .0)), not-true (goodRatios ls) (h5 .0))
+    let n : NoneOf (openingRow o) = none-of (openingRow o) refl h in
+    (between-high 2 (length (o .legs)) 4 (not-true (between 2 (length (o .legs)) 4) (n .0)), not-true (goodRatios (o .legs)) (n .1 .1 .1 .1 .0))
 
 pub start-inv : (o : Strategy) → openingRefusal o ≡ 0 → Inv (startOf o)
 start-inv o h =

@@ -1,18 +1,17 @@
 -- What every state of a run keeps: ids distinct, units above 0, arrival numbers rising and below the next, prices in range, the queue on one side.
-use mathlib.Core.Path.{_≡_, refl, ap, sym, _∙_, subst}
-use mathlib.Core.Bool.{Bool, true, false, _&&_, _||_, not, true≢false}
+use mathlib.Core.Path.{_≡_, ap, sym, _∙_, subst}
+use mathlib.Core.Bool.{Bool, true, false, true≢false}
 use mathlib.Core.List.{List, [], _∷_, _++_}
-use Prim.Native.Nat.{ℕ, zero, suc, _+_, _-_, _*_, _≤_, _<_, min}
+use Prim.Native.Nat.{ℕ, _-_, _≤_, _<_}
 use native.Mathlib.Decide.{ℕ-discrete, decLt}
 use native.Mathlib.Omega.{arith}
 use borrow.Author.Tests.{eq-eqb, ne-eqb, lt-ltb, le-ltb}
-use lib.Dec.{eqb, ltb, leb}
 use lib.ListN.{length}
 use Rattle.rules.specs.Basics.{pick}
-use Rattle.rules.specs.Strategy.{Leg, isB}
-use Rattle.rules.specs.Prices.{Side, Quote, used, usesAsk, over, net, derived, lowered, lowerQuote, lower, mostHeld}
-use Rattle.rules.specs.Book.{Stage, held, live, queued, answer, isQueued, isResponse, Entry, withStage, lessUnits, Found, nobody, found, find, only, released, releasedAll}
-use Rattle.rules.specs.State.{Auction, none, pending, Pending, State, contraPrice}
+use Rattle.rules.specs.Strategy.{Leg}
+use Rattle.rules.specs.Prices.{Quote, mostHeld}
+use Rattle.rules.specs.Book.{Stage, isQueued, Entry, withStage, lessUnits, Found, nobody, found, find, only, released, releasedAll}
+use Rattle.rules.specs.State.{Auction, none, pending, State}
 use Rattle.rules.specs.Execution.{afterTurn, keep, settled}
 
 abbrev pub AllE : (Entry → Type 0) → List Entry → Type 0
@@ -36,9 +35,13 @@ abbrev pub FitLegs : List Leg → Type 0
 FitLegs [] = Unit {0}
 FitLegs (l ∷ ls) = ((1 ≤ l .ratio) × (l .ratio ≤ 9)) × FitLegs ls
 
+-- a leg's prices are such as a quote may have
+abbrev pub FitQuote : Quote → Type 0
+FitQuote q = (q .bid .price ≤ 999_999) × (q .ask .price ≤ 999_999) × (q .nationalBid ≤ 999_999) × (q .nationalAsk ≤ 999_999)
+
 abbrev pub FitQuotes : List Quote → Type 0
 FitQuotes [] = Unit {0}
-FitQuotes (q ∷ qs) = ((q .bid .price ≤ 999_999) × (q .ask .price ≤ 999_999)) × FitQuotes qs
+FitQuotes (q ∷ qs) = FitQuote q × FitQuotes qs
 
 pub record Inv (s : State) : Type 0 where
   pub order : Ordered (s .book)

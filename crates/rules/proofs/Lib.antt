@@ -11,6 +11,7 @@ pub mod MarketLaws
 pub mod ExecuteCases
 pub mod ExecuteLaws
 pub mod SilentLaws
+pub mod RowLaws
 pub mod ServeLaws
 pub mod ClaimLaws
 pub mod IntakeLaws

@@ -1,18 +1,17 @@
 -- The legs: the derived price stays in range, and a fill takes its units from it and leaves its price.
-use mathlib.Core.Path.{_≡_, refl, ap, ap₂, sym, _∙_}
-use mathlib.Core.Bool.{Bool, true, false, _&&_, _||_, not, true≢false}
+use mathlib.Core.Path.{_≡_, refl, ap, ap₂, _∙_}
+use mathlib.Core.Bool.{Bool, true, false, not}
 use mathlib.Core.List.{List, [], _∷_}
-use Prim.Native.Nat.{ℕ, zero, suc, _+_, _-_, _*_, _/_, _%_, _≤_, _<_, min}
+use Prim.Native.Nat.{ℕ, _+_, _-_, _*_, _/_, _%_, _≤_, _<_, min}
 use native.Mathlib.Nat.{div-add-mod', mod-lt, mul-le-mul-right, zero-div}
-use native.Mathlib.Decide.{ℕ-discrete, decLt, decLe}
+use native.Mathlib.Decide.{decLt, decLe}
 use native.Mathlib.Omega.{arith}
-use borrow.Author.Tests.{eq-eqb, ne-eqb, lt-ltb, le-ltb}
-use lib.Dec.{eqb, ltb, leb}
+use borrow.Author.Tests.{lt-ltb, le-ltb}
 use lib.ListN.{length}
 use Rattle.rules.specs.Basics.{pick}
 use Rattle.rules.specs.Strategy.{Leg, isB}
-use Rattle.rules.specs.Prices.{Side, Quote, used, usesAsk, over, net, unitsShown, leastFrom, least, Derived, derived, lowered, lowerQuote, lower, mostHeld, mostCents}
-use Rattle.rules.proofs.Invariant.{FitLegs, FitQuotes}
+use Rattle.rules.specs.Prices.{Side, Quote, used, usesAsk, over, net, unitsShown, leastFrom, least, derived, lowered, lowerQuote, lower, mostHeld, mostCents}
+use Rattle.rules.proofs.Invariant.{FitLegs, FitQuotes, FitQuote}
 
 -- ---- the range
 
@@ -50,9 +49,9 @@ lowered-fit s n h =
       | no m ↦ rw (le-ltb n (s .size) (omega arith)) (omega arith)
     ]
 
-quote-fit : (b : Bool) (n : ℕ) (q : Quote) → (q .bid .price ≤ 999_999) × (q .ask .price ≤ 999_999) → (lowerQuote b n q .bid .price ≤ 999_999) × (lowerQuote b n q .ask .price ≤ 999_999)
-quote-fit true n q h = (h .0, lowered-fit (q .ask) n (h .1))
-quote-fit false n q h = (lowered-fit (q .bid) n (h .0), h .1)
+quote-fit : (b : Bool) (n : ℕ) (q : Quote) → FitQuote q → FitQuote (lowerQuote b n q)
+quote-fit true n q h = (h .0, lowered-fit (q .ask) n (h .1), h .2, h .3)
+quote-fit false n q h = (lowered-fit (q .bid) n (h .0), h .1, h .2, h .3)
 
 pub lower-fit : (ask : Bool) (n : ℕ) (ls : List Leg) (qs : List Quote) → FitQuotes qs → FitQuotes (lower ask n ls qs)
 unfolding lower

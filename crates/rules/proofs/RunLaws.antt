@@ -1,23 +1,21 @@
 -- Demand 3: every answer of every run.
-use mathlib.Core.Path.{_≡_, refl, ap, ap₂, sym, _∙_, subst}
+use mathlib.Core.Path.{_≡_, refl, ap, sym, _∙_, subst}
 use mathlib.Core.Bool.{Bool, true, false, true≢false}
 use mathlib.Core.List.{List, [], _∷_, map}
-use Prim.Native.Nat.{ℕ, zero, suc, _+_, _-_, _≤_, _<_}
+use Prim.Native.Nat.{ℕ, _+_, _-_}
 use native.Mathlib.Decide.{ℕ-discrete}
 use native.Mathlib.Omega.{arith}
 use borrow.Author.Tests.{eq-eqb, ne-eqb}
-use lib.Dec.{eqb}
-use Rattle.rules.specs.Basics.{pick, firstOf}
 use Rattle.rules.specs.Strategy.{Strategy, openingRefusal}
 use Rattle.rules.specs.Messages.{Body, Message}
 use Rattle.rules.specs.Refusals.{refusal}
 use Rattle.rules.specs.State.{Clock, Auction, none, pending, State, taken}
-use Rattle.rules.specs.Execution.{Turn, Reply, still}
-use Rattle.rules.specs.Step.{Act, goesOn, begins, joining, ends, Intake, takeIn, quiet, follow, recordsOf, Answer, answered, accepted, turnedBack, step}
+use Rattle.rules.specs.Execution.{Reply, still}
+use Rattle.rules.specs.Step.{Act, goesOn, begins, joining, ends, Intake, takeIn, quiet, follow, Answer, answered, accepted, step}
 use Rattle.rules.specs.Run.{Opened, refusedOpening, started, startOf, opening, Sent, answerTo, answers}
 use Rattle.rules.specs.Demand.{GoodTurn, Told, Good, Demand3OfRules}
 use Rattle.rules.proofs.Invariant.{Inv}
-use Rattle.rules.proofs.ServeLaws.{AllT, Apart, Kept, steps-kept, ending-kept}
+use Rattle.rules.proofs.ServeLaws.{Kept, steps-kept, ending-kept}
 use Rattle.rules.proofs.ClaimLaws.{told}
 use Rattle.rules.proofs.IntakeLaws.{kind-none, taken-inv, taken-earlier, take-inv, take-clock, start-inv}
 

@@ -1,17 +1,15 @@
 -- Turns one after another: each is good, and of two turns of one order the later has no record.
-use mathlib.Core.Path.{_≡_, refl, ap, ap₂, sym, _∙_, subst}
-use mathlib.Core.Bool.{Bool, true, false, not, true≢false}
+use mathlib.Core.Path.{_≡_, refl, ap, sym, _∙_, subst}
+use mathlib.Core.Bool.{Bool, true, false, not}
 use mathlib.Core.List.{List, [], _∷_, _++_}
-use Prim.Native.Nat.{ℕ, zero, suc, _+_, _-_, _≤_, _<_}
-use native.Mathlib.Omega.{arith}
-use Rattle.rules.specs.Book.{Stage, held, live, queued, answer, isHeld, isLive, isQueued, isResponse, Entry, Found, found, find, only, released, releasedAll, expired, idsOf}
-use Rattle.rules.specs.State.{Clock, Auction, none, pending, State}
-use Rattle.rules.specs.Turn.{Fill}
+use Prim.Native.Nat.{ℕ, _-_}
+use Rattle.rules.specs.Book.{Stage, held, live, queued, answer, isHeld, isQueued, isResponse, Entry, found, find, only, released, expired, idsOf}
+use Rattle.rules.specs.State.{Clock, Auction, none, State}
 use Rattle.rules.specs.Execution.{Mode, fromQueue, goingLive, legsPass, Turn, turnOf, stageAfter, executed, Reply, still, then, ready, execute, serve}
 use Rattle.rules.specs.Auction.{queue}
 use Rattle.rules.specs.Step.{goLive, liveOf, passLegs, steps, closed, ending}
 use Rattle.rules.specs.Demand.{GoodTurn}
-use Rattle.rules.proofs.Invariant.{AllE, FitEntry, FitQueue, Inv, all-only, all-released, ordered-only, ordered-released, find-all}
+use Rattle.rules.proofs.Invariant.{FitEntry, FitQueue, Inv, all-only, all-released, ordered-only, ordered-released, find-all}
 use Rattle.rules.proofs.ExecuteCases.{execute-cases}
 use Rattle.rules.proofs.ExecuteLaws.{good-turn, executed-inv, turn-order}
 use Rattle.rules.proofs.SilentLaws.{Done, Rested, done-rested, done-stays, rested-stays, closed-done, rested-after, done-after, done-silent, rested-silent}

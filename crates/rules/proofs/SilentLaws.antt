@@ -1,28 +1,26 @@
 -- After its turn an order that is still open finds nothing more in the same message.
-use mathlib.Core.Path.{_≡_, refl, ap, ap₂, sym, _∙_, subst}
-use mathlib.Core.Bool.{Bool, true, false, _&&_, _||_, not, true≢false}
-use mathlib.Core.List.{List, [], _∷_, _++_}
+use mathlib.Core.Path.{_≡_, refl, ap, sym, _∙_, subst}
+use mathlib.Core.Bool.{Bool, true, false, _&&_, not, true≢false}
+use mathlib.Core.List.{List, [], _∷_}
 use mathlib.Core.Logic.{_⊎_, inl, inr}
-use Prim.Native.Nat.{ℕ, zero, suc, _+_, _-_, _*_, _≤_, _<_, min}
-use native.Mathlib.Decide.{ℕ-discrete, decLt, decLe}
+use Prim.Native.Nat.{ℕ, _-_, _<_}
+use native.Mathlib.Decide.{ℕ-discrete, decLt}
 use native.Mathlib.Omega.{arith}
 use borrow.Author.Tests.{eq-eqb, ne-eqb, lt-ltb, le-ltb}
-use lib.Dec.{eqb, ltb, leb}
-use lib.ListN.{take, drop}
 use Rattle.rules.specs.Basics.{sum, Below, pick}
 use Rattle.rules.specs.Strategy.{Leg}
 use Rattle.rules.specs.Prices.{Quote, Derived, derived, lower}
-use Rattle.rules.specs.Book.{Stage, held, live, queued, answer, isHeld, isLive, isQueued, isResponse, Entry, sameSide, withStage, lessUnits, Found, nobody, found, find, only, released, releasedAll, expired}
-use Rattle.rules.specs.State.{Auction, none, pending, Pending, State, contraPrice}
-use Rattle.rules.specs.Turn.{Offer, sizes, places, turn, fillsOf, keyOf}
-use Rattle.rules.specs.Execution.{Mode, fromQueue, goingLive, legsPass, opens, isWithin, isOpenTo, offerOf, offersOf, allUpTo, interest, Turn, turnOf, stageAfter, afterTurn, keep, settled, executed, ready, bookGave, legsGave}
+use Rattle.rules.specs.Book.{Stage, held, live, queued, answer, isHeld, isLive, isQueued, isResponse, Entry, sameSide, found, find, releasedAll, expired}
+use Rattle.rules.specs.State.{Auction, none, pending, State, contraPrice}
+use Rattle.rules.specs.Turn.{Offer, sizes, places, turn, keyOf}
+use Rattle.rules.specs.Execution.{Mode, fromQueue, goingLive, legsPass, opens, isWithin, isOpenTo, offersOf, allUpTo, interest, Turn, turnOf, stageAfter, afterTurn, keep, settled, executed, ready, bookGave, legsGave}
 use Rattle.rules.specs.Step.{closed}
 use Rattle.rules.specs.Best.{Each}
-use Rattle.rules.proofs.BasicsLaws.{below-full, below-sum}
+use Rattle.rules.proofs.BasicsLaws.{below-full}
 use Rattle.rules.proofs.TestLaws.{pick-none}
 use Rattle.rules.proofs.TurnLaws.{turn-below, turn-sum}
 use Rattle.rules.proofs.RecordLaws.{no-records}
-use Rattle.rules.proofs.Invariant.{AllE, Ordered, FitEntry, FitQueue, FitLegs, FitQuotes, Inv, all-map, all-both, all-only, all-released, settled-all, find-all, find-id, find-only}
+use Rattle.rules.proofs.Invariant.{AllE, FitQueue, FitLegs, Inv, all-map, all-both, all-only, all-released, settled-all, find-all, find-id, find-only}
 use Rattle.rules.proofs.MarketLaws.{units-less, price-same, derived-other}
 use Rattle.rules.proofs.ExecuteLaws.{turn-order}
 

@@ -1,19 +1,19 @@
 -- A turn by keys and places: what it gives in all, where it stops, what it costs, and what each place gets.
-use mathlib.Core.Path.{_≡_, refl, ap, sym, _∙_}
+use mathlib.Core.Path.{_≡_, refl, sym, _∙_}
 use mathlib.Core.Bool.{Bool, true, false}
 use mathlib.Core.Logic.{_⊎_, inl, inr}
 use mathlib.Core.List.{List, [], _∷_}
-use Prim.Native.Nat.{ℕ, zero, suc, _+_, _-_, _*_, _/_, _%_, _≤_, _<_, min}
+use Prim.Native.Nat.{ℕ, suc, _+_, _-_, _*_, _/_, _≤_, _<_, min}
 use native.Mathlib.Decide.{ℕ-discrete, decLt}
 use native.Mathlib.Omega.{arith}
 use borrow.Author.Tests.{eq-eqb, ne-eqb, lt-ltb, le-ltb}
-use lib.Dec.{eqb, ltb}
+use lib.Dec.{ltb}
 use Rattle.rules.specs.Basics.{pick, sum, plus, zeros, Below}
 use Rattle.rules.specs.Share.{shares, inTurn}
 use Rattle.rules.specs.Turn.{Rank, L, C, N, T, R, rankNumber, Offer, place, sizeAt, sizesAt, sizes, isShared, deal, insert, places, fill, turn}
 use Rattle.rules.specs.Sharing.{RoundedTo, Rounded}
 use Rattle.rules.specs.Best.{Each}
-use Rattle.rules.proofs.BasicsLaws.{sum-zeros, zeros-below, sum-plus, below-sum, below-full, sum-zero, rearrange}
+use Rattle.rules.proofs.BasicsLaws.{sum-zeros, sum-plus, below-sum, below-full, sum-zero, rearrange}
 use Rattle.rules.proofs.ShareLaws.{shares-sum, shares-below, shares-rounded, inTurn-sum, inTurn-below}
 
 -- the sum of key × units
