@@ -1,7 +1,20 @@
 // Document 01 as definitions, in specs/, with their laws in proofs/. Each function states a claim, so that the check names it.
 ghost use Rattle.rules.specs.Best.{TurnIsBest};
+ghost use Rattle.rules.specs.Bound.{RecordsFit};
+ghost use Rattle.rules.specs.Cases.{CasesHold};
 ghost use Rattle.rules.specs.Demand.{Demand3OfRules};
+ghost use Rattle.rules.specs.Series.{ThirdFridaysFixed};
 ghost use Rattle.rules.specs.Sharing.{SharingIsExact};
+
+// The cases marked P in document 01.
+pub fn cases_hold()
+    ensures { λ r. ⌜ CasesHold ⌝ }
+{}
+
+// The table of 1,200 third Fridays says what the weekday rule says.
+pub fn third_fridays_fixed()
+    ensures { λ r. ⌜ ThirdFridaysFixed ⌝ }
+{}
 
 // Shares sum to the amount, none is above its size, each is exact but for rounding, and leftover units go where document 01 puts them.
 pub fn sharing_is_exact()
@@ -11,6 +24,11 @@ pub fn sharing_is_exact()
 // What a turn gives is a way, none fills more, none that fills as many is cheaper; rank and arrival priority; exact shares.
 pub fn turn_is_best()
     ensures { λ r. ⌜ TurnIsBest ⌝ }
+{}
+
+// 2,000 places are enough for the records of a message, from every state of at most 64 entries.
+pub fn records_fit()
+    ensures { λ r. ⌜ RecordsFit ⌝ }
 {}
 
 // Demand 3, of the rules' own answers.
