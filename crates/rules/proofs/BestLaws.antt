@@ -15,7 +15,7 @@ use Rattle.rules.specs.Sharing.{RoundedTo, LeftRule, LeftTo, LeftAll}
 use Rattle.rules.specs.Best.{Taker, Each, Any2, InLimit, Way, ranksAfter, sameRank, oneOf, cheaper, isBefore, isBeside, unitsWhere, totalAt, amountAt, isSharedRank, Sharing, Best, Keyed, NoneEarlier, ByArrival, TurnIsBest}
 use Rattle.rules.proofs.TestLaws.{lt-of, eq-of, pick-same}
 use Rattle.rules.proofs.ShareLaws.{shares-left}
-use Rattle.rules.proofs.TurnLaws.{cost, Pairs, before, amountFrom, Fair, CutAt, Among, Covers, First, rank-small, reached, each-map, each-both, pairs-of, pairs-if, at-yes, fill-first, places-rising, places-cover, turn-most, turn-cheapest, turn-cut, turn-below, turn-sum, turn-shared}
+use Rattle.rules.proofs.TurnLaws.{cost, Pairs, before, amountFrom, Fair, CutAt, Among, Covers, First, rank-small, reached, each-map, each-both, pairs-of, pairs-if, at-yes, fill-first, places-rising, places-cover, turn-most, turn-cheapest, turn-cut, turn-below, turn-sum, turn-shared, turn-first}
 use Rattle.rules.proofs.PlaceLaws.{givesAt, turn-at}
 use Rattle.rules.proofs.SignedLaws.{inside-key, key-inside, cheaper-worth}
 
@@ -359,7 +359,6 @@ module _ (o : Taker) (all : List Offer) (fits : o .limit ≤ mostHeld) (keyed : 
       all gs base) all gs base
 
   turn-by-arrival : Any2 (λ e g f h. isBeside e f ≡ true → e .rank ≡ R → e .arrival < f .arrival → 0 < h → g ≡ e .units) all gs
-  unfolding turn
   turn-by-arrival =
       any-map (λ e g f h. e .arrival < f .arrival → (Base e g × Base f h) × First (upTo k₀ e) g (upTo k₀ f) h) (λ e g f h. isBeside e f ≡ true → e .rank ≡ R → e .arrival < f .arrival → 0 < h → g ≡ e .units)
       (λ e g f h p t r a l. (
@@ -371,7 +370,7 @@ module _ (o : Taker) (all : List Offer) (fits : o .limit ≤ mostHeld) (keyed : 
       ))
       all gs
       (any-two (λ e g f h. (Base e g × Base f h) × First (upTo k₀ e) g (upTo k₀ f) h) all gs sorted
-      (pairs-of Base (λ e g f h. First (upTo k₀ e) g (upTo k₀ f) h) all gs base (pairs-upTo First k₀ all gs (fill-first 0 (places reach) (o .units) reach (places-rising reach) (places-cover reach)))))
+      (pairs-of Base (λ e g f h. First (upTo k₀ e) g (upTo k₀ f) h) all gs base (pairs-upTo First k₀ all gs (turn-first (o .units) reach))))
 
   turn-rounded : Each (λ e g. Sharing o e → RoundedTo (amountAt o all e) (totalAt all e) (e .units) g) all gs
   turn-rounded =

@@ -21,7 +21,8 @@ use Rattle.rules.specs.Step.{Act, goesOn, begins, joining, ends, Intake,
 use Rattle.rules.specs.Bound.{RecordsFit}
 use Rattle.rules.proofs.BasicsLaws.{rearrange}
 use Rattle.rules.proofs.ExecuteCases.{execute-cases}
-use Rattle.rules.proofs.CountLaws.{pick-both, one, one-most, at, turn-less, turn-opened, turn-outside}
+use Rattle.rules.proofs.TestLaws.{pick-both}
+use Rattle.rules.proofs.CountLaws.{one, one-most, at, turn-less, turn-opened, turn-outside}
 
 -- ---- lengths of lists of entries
 

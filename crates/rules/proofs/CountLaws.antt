@@ -13,15 +13,11 @@ use Rattle.rules.specs.Basics.{pick, sum, Below}
 use Rattle.rules.specs.Book.{Stage, Entry, sameSide, count}
 use Rattle.rules.specs.State.{State}
 use Rattle.rules.specs.Turn.{R, Offer, keyOf, place, sizesAt, sizes, isShared, places, turn, fillOf, fillsAt, fillsOf}
-use Rattle.rules.specs.Execution.{Mode, opens, rankOf, offerOf, offersOf, interest, upTo, allUpTo, turnOf, stageAfter, afterTurn, keep, settled, executed}
+use Rattle.rules.specs.Execution.{Mode, opens, rankOf, offerOf, offersOf, interest, upTo, allUpTo, turnOf, stageAfter, afterTurn, keep, settled, executed, inside}
 use Rattle.rules.specs.Best.{Each}
 use Rattle.rules.proofs.BasicsLaws.{sum-zeros, sum-plus}
-use Rattle.rules.proofs.TurnLaws.{Pairs, Covers, caps, caps-all, CutAt, First, each-map, each-both, places-rising, places-cover, fill-first, turn-below, turn-cut}
-
--- what holds of both holds of the one that is picked
-pub pick-both : {A : Type 0} (P : A → Type 0) (b : Bool) {x y : A} → P x → P y → P (pick b x y)
-pick-both P true p q = p
-pick-both P false p q = q
+use Rattle.rules.proofs.TurnLaws.{Pairs, Covers, caps, caps-all, CutAt, First, each-map, each-both, places-rising, places-cover, fill-first, turn-below, turn-cut, turn-first}
+use Rattle.rules.proofs.TestLaws.{pick-both}
 
 -- ---- the records of a turn: one for each offer that gives something
 
@@ -198,11 +194,7 @@ module _ (m : Mode) (outside : (customer : Bool) → rankOf m customer ≡ R) (o
 
 -- ---- a turn
 
--- what is open to an order within its limit
-abbrev inside : Mode → State → Entry → List Offer
-inside m s o = allUpTo (keyOf (o .buy) (o .price)) (interest m s o)
-
--- what each of these gives it
+-- what each offer within the limit gives
 abbrev grants : Mode → State → Entry → List ℕ
 grants m s o = turn (o .units) (inside m s o)
 
@@ -213,10 +205,6 @@ turn-records m s o = records-given (s .clock .next - 1) (o .id) (inside m s o) (
 executed-book : (m : Mode) (s : State) (o : Entry) → executed m s (turnOf m s o) .book ≡ settled (o .id) (sum (grants m s o)) (stageAfter m) (s .book) (drop 1 (grants m s o))
 unfolding executed turnOf
 executed-book m s o = refl
-
-turn-first : (units : ℕ) (es : List Offer) → Pairs First es (turn units es)
-unfolding turn
-turn-first units es = fill-first 0 (places es) units es (places-rising es) (places-cover es)
 
 -- no turn adds to the book, nor to the stages f where the order's stage after it is not one of them
 pub turn-less : (f : Stage → Bool) (m : Mode) (s : State) (o : Entry) → f (stageAfter m) ≡ false

@@ -10,7 +10,7 @@ use Rattle.rules.specs.Prices.{mostHeld}
 use Rattle.rules.specs.Book.{isQueued, Entry, withStage, lessUnits, found, find}
 use Rattle.rules.specs.State.{Auction, none, pending, State, contraPrice}
 use Rattle.rules.specs.Turn.{Contra, legs, entry, keyOf, Offer, places, turn, Fill, fillOf, fillsOf}
-use Rattle.rules.specs.Execution.{Mode, fromQueue, goingLive, legsPass, offersOf, interest, upTo, allUpTo, Turn, turnOf, stageAfter, executed, ready, offerOf, legsOffer, bookGave, legsGave}
+use Rattle.rules.specs.Execution.{Mode, fromQueue, goingLive, legsPass, offersOf, interest, upTo, allUpTo, Turn, turnOf, stageAfter, executed, ready, offerOf, legsOffer, bookGave, legsGave, inside}
 use Rattle.rules.specs.Best.{Taker, Each, InLimit, Best, Keyed, NoneEarlier, ByArrival}
 use Rattle.rules.specs.Demand.{sameContra, wayOf, Named, Mark, takerOf, GoodTurn}
 use Rattle.rules.proofs.TurnLaws.{CutAt, turn-cut, turn-below, each-map, each-both}
@@ -101,21 +101,21 @@ good-turn m s o v j =
     let k : ℕ = keyOf (o .buy) (o .price) in
     let taker : Taker = takerOf (turnOf m s o) in
     let es : List Offer = interest m s o in
-    let inside : List Offer = allUpTo k es in
-    let gs : List ℕ = turn (o .units) inside in
-    let q : ℕ = turn-cut (o .units) inside .0 in
-    let cut : Each (CutAt q) inside gs = turn-cut (o .units) inside .1 in
-    let rs : List Fill = fillsOf n (o .id) (places inside) inside gs in
-    let apart : Distinct inside = distinct-upTo k es (distinct m s o v) in
-    let way : wayOf rs es ≡ gs = sym (way-upTo rs k es) ∙ records-way n (o .id) (CutAt q) inside gs apart cut (turn-below (o .units) inside) in
+    let near : List Offer = inside m s o in
+    let gs : List ℕ = turn (o .units) near in
+    let q : ℕ = turn-cut (o .units) near .0 in
+    let cut : Each (CutAt q) near gs = turn-cut (o .units) near .1 in
+    let rs : List Fill = fillsOf n (o .id) (places near) near gs in
+    let apart : Distinct near = distinct-upTo k es (distinct m s o v) in
+    let way : wayOf rs es ≡ gs = sym (way-upTo rs k es) ∙ records-way n (o .id) (CutAt q) near gs apart cut (turn-below (o .units) near) in
     let fine : Best taker es gs = best taker es j (keyed m s o v) (by-arrival m s o v) in
     record {
-      marks = all-of (Mark n (turnOf m s o)) n (o .id) (places inside) inside gs
-          (each-map (λ e g. Named (fillOf n (o .id) e g) inside × (0 < g → InLimit taker e)) (λ e g. 0 < g → Mark n (turnOf m s o) (fillOf n (o .id) e g))
-          (λ e g p l. record { number = refl; order = refl; named = named-upTo (fillOf n (o .id) e g) k es (p .0); inside = p .1 l; some = l }) inside gs
-          (each-both (λ e g. Named (fillOf n (o .id) e g) inside) (λ e g. 0 < g → InLimit taker e) inside gs
-          (each-named (CutAt q) n (o .id) inside gs cut) (each-into (λ e g. 0 < g → InLimit taker e) k es gs (fine .way .inside))));
-      once = records-once n (o .id) (CutAt q) (o .buy) inside gs apart (keyed-upTo (o .buy) k es (keyed m s o v)) cut;
+      marks = all-of (Mark n (turnOf m s o)) n (o .id) (places near) near gs
+          (each-map (λ e g. Named (fillOf n (o .id) e g) near × (0 < g → InLimit taker e)) (λ e g. 0 < g → Mark n (turnOf m s o) (fillOf n (o .id) e g))
+          (λ e g p l. record { number = refl; order = refl; named = named-upTo (fillOf n (o .id) e g) k es (p .0); inside = p .1 l; some = l }) near gs
+          (each-both (λ e g. Named (fillOf n (o .id) e g) near) (λ e g. 0 < g → InLimit taker e) near gs
+          (each-named (CutAt q) n (o .id) near gs cut) (each-into (λ e g. 0 < g → InLimit taker e) k es gs (fine .way .inside))));
+      once = records-once n (o .id) (CutAt q) (o .buy) near gs apart (keyed-upTo (o .buy) k es (keyed m s o v)) cut;
       best = subst (λ (ws : List ℕ). Best taker es ws) (sym way) fine;
     }
 

@@ -13,7 +13,7 @@ use Rattle.rules.specs.Prices.{Quote, Derived, derived, lower}
 use Rattle.rules.specs.Book.{Stage, held, live, queued, answer, isHeld, isLive, isQueued, isResponse, Entry, sameSide, found, find, releasedAll, expired}
 use Rattle.rules.specs.State.{Auction, none, pending, State, contraPrice}
 use Rattle.rules.specs.Turn.{Offer, sizes, places, turn, keyOf}
-use Rattle.rules.specs.Execution.{Mode, fromQueue, goingLive, legsPass, opens, isWithin, isOpenTo, offersOf, allUpTo, interest, Turn, turnOf, stageAfter, afterTurn, keep, settled, executed, ready, bookGave, legsGave}
+use Rattle.rules.specs.Execution.{Mode, fromQueue, goingLive, legsPass, opens, isWithin, isOpenTo, offersOf, allUpTo, interest, Turn, turnOf, stageAfter, afterTurn, keep, settled, executed, ready, bookGave, legsGave, inside}
 use Rattle.rules.specs.Step.{closed}
 use Rattle.rules.specs.Best.{Each}
 use Rattle.rules.proofs.BasicsLaws.{below-full}
@@ -128,15 +128,11 @@ closed-done i s d =
 
 -- ---- after its own turn
 
--- the interest within the order's limit
-abbrev reach : Mode → State → Entry → List Offer
-reach m s o = allUpTo (keyOf (o .buy) (o .price)) (interest m s o)
-
 -- what is left of the order's units: then all that was within the limit was given
-all-given : (m : Mode) (s : State) (o : Entry) → 0 < o .units - sum (turnOf m s o .gave) → turnOf m s o .gave ≡ sizes (reach m s o)
+all-given : (m : Mode) (s : State) (o : Entry) → 0 < o .units - sum (turnOf m s o .gave) → turnOf m s o .gave ≡ sizes (inside m s o)
 unfolding turnOf
 all-given m s o h =
-    below-full (turn (o .units) (reach m s o)) (sizes (reach m s o)) (turn-below (o .units) (reach m s o)) (omega (arith, turn-sum (o .units) (reach m s o)))
+    below-full (turn (o .units) (inside m s o)) (sizes (inside m s o)) (turn-below (o .units) (inside m s o)) (omega (arith, turn-sum (o .units) (inside m s o)))
 
 legs-given : (m : Mode) (s : State) (o : Entry) → 0 < o .units - sum (turnOf m s o .gave) → legsGave m s (turnOf m s o) ≡ shown o (contraPrice s (o .buy))
 unfolding interest
@@ -268,10 +264,10 @@ empty-each [] gs p b = tt
 empty-each (e ∷ es) [] p b = absurd b
 empty-each (e ∷ es) (g ∷ gs) p b = (omega (arith, p .0, b .0), empty-each es gs (p .1) (b .1))
 
-empty-records : (m : Mode) (s : State) (o : Entry) → Empty (reach m s o) → turnOf m s o .records ≡ []
+empty-records : (m : Mode) (s : State) (o : Entry) → Empty (inside m s o) → turnOf m s o .records ≡ []
 unfolding turnOf
 empty-records m s o p =
-    no-records (s .clock .next - 1) (o .id) (places (reach m s o)) (reach m s o) (turn (o .units) (reach m s o)) (empty-each (reach m s o) (turn (o .units) (reach m s o)) p (turn-below (o .units) (reach m s o)))
+    no-records (s .clock .next - 1) (o .id) (places (inside m s o)) (inside m s o) (turn (o .units) (inside m s o)) (empty-each (inside m s o) (turn (o .units) (inside m s o)) p (turn-below (o .units) (inside m s o)))
 
 closed-to : (a b c : Bool) (x : ℕ) → (b && c) ≡ false → pick c (pick (a && b) x 0) 0 ≡ 0
 closed-to a b false x h = refl

@@ -57,3 +57,8 @@ pick-same false false x y e h = refl
 pub pick-none : (b : Bool) → pick {A = ℕ} b 0 0 ≡ 0
 pick-none true = refl
 pick-none false = refl
+
+-- what holds of both holds of the one that is picked
+pub pick-both : {A : Type 0} (P : A → Type 0) (b : Bool) {x y : A} → P x → P y → P (pick b x y)
+pick-both P true p q = p
+pick-both P false p q = q

@@ -593,6 +593,10 @@ turn-cut units es =
     let (q, h, c) = fill-cut 0 (places es) units es (places-rising es) (places-cover es) in
     (q, each-map (CutFrom 0 q) (CutAt q) (λ e g d. d .1 (omega arith)) es (fill (places es) units es) c)
 
+pub turn-first : (units : ℕ) (es : List Offer) → Pairs First es (turn units es)
+unfolding turn
+turn-first units es = fill-first 0 (places es) units es (places-rising es) (places-cover es)
+
 pub before-none : (es : List Offer) → before 0 es ≡ 0
 before-none [] = refl
 before-none (e ∷ es) = rw (le-ltb (place e) 0 (omega arith)) (omega (arith, before-none es))
