@@ -15,7 +15,7 @@ use Rattle.rules.specs.Sharing.{RoundedTo, LeftRule, LeftTo, LeftAll}
 use Rattle.rules.specs.Best.{Taker, Each, Any2, InLimit, Way, ranksAfter, sameRank, oneOf, cheaper, isBefore, isBeside, unitsWhere, totalAt, amountAt, isSharedRank, Sharing, Best, Keyed, NoneEarlier, ByArrival, TurnIsBest}
 use Rattle.rules.proofs.TestLaws.{lt-of, eq-of, pick-same}
 use Rattle.rules.proofs.ShareLaws.{shares-left}
-use Rattle.rules.proofs.TurnLaws.{cost, Pairs, before, amountFrom, Fair, CutAt, Among, Covers, First, rank-small, reached, each-map, each-both, pairs-of, pairs-if, at-yes, fill-first, places-rising, places-cover, turn-most, turn-cheapest, turn-cut, turn-below, turn-sum, turn-shared, turn-first}
+use Rattle.rules.proofs.TurnLaws.{cost, Pairs, before, amountFrom, Fair, CutAt, Among, Covers, First, rank-small, reached, each-map, each-both, pairs-of, pairs-if, at-yes, places-cover, turn-most, turn-cheapest, turn-cut, turn-below, turn-sum, turn-shared, turn-first}
 use Rattle.rules.proofs.PlaceLaws.{givesAt, turn-at}
 use Rattle.rules.proofs.SignedLaws.{inside-key, key-inside, cheaper-worth}
 

@@ -22,7 +22,8 @@ use Rattle.rules.specs.Bound.{RecordsFit}
 use Rattle.rules.proofs.BasicsLaws.{rearrange}
 use Rattle.rules.proofs.ExecuteCases.{execute-cases}
 use Rattle.rules.proofs.TestLaws.{pick-both}
-use Rattle.rules.proofs.CountLaws.{one, one-most, at, turn-less, turn-opened, turn-outside}
+use Rattle.rules.proofs.CountLaws.{one, one-most, at, turn-less, turn-opened, turn-outside, none-after-turn}
+use Rattle.rules.proofs.IntakeLaws.{newOrder}
 
 -- ---- lengths of lists of entries
 
@@ -62,7 +63,7 @@ count-apart : (f g : Entry → Bool) → ((e : Entry) → one (f e) + one (g e) 
 count-apart f g a [] = omega arith
 count-apart f g a (e ∷ es) = omega (arith, a e, count-apart f g a es)
 
-only-most : (f : Entry → Bool) (es : List Entry) → length (only f es) ≤ length es
+pub only-most : (f : Entry → Bool) (es : List Entry) → length (only f es) ≤ length es
 only-most f es = omega (arith, only-length f es, count-apart f (λ e. false) (λ e. omega (arith, one-most (f e))) es)
 
 -- ---- several turns
@@ -108,7 +109,7 @@ Few es = length es ≤ mostEntries
 outside-ran : (m : Mode) → ((customer : Bool) → rankOf m customer ≡ R) → (is : List ℕ) (s : State) → Few (s .book) → Ran Few length (length is * 2) s (serve m is s)
 outside-ran m r =
     serve-ran Few length m 2
-    (λ s o h. (omega (arith, turn-less (λ t. false) m s o refl), omega (arith, records-one (turnOf m s o), turn-outside m r s o)))
+    (λ s o h. (omega (arith, turn-less (λ t. false) m s o (none-after-turn (λ t. false) m (o .id) (s .book) refl)), omega (arith, records-one (turnOf m s o), turn-outside m r s o)))
 
 live-sides : (e : Entry) → one (isLive (e .stage) && e .buy) + one (isLive (e .stage) && not (e .buy)) ≤ 1
 live-sides e = go (isLive (e .stage)) (e .buy)
@@ -144,7 +145,7 @@ queue-ran : (c : ℕ) (is : List ℕ) (s : State) → Few (s .book) × (at (open
     → Ran (λ es. Few es × (at (opens fromQueue) es ≤ c)) (λ es. 0) (length is * (1 + c)) s (serve fromQueue is s)
 queue-ran c =
     serve-ran (λ es. Few es × (at (opens fromQueue) es ≤ c)) (λ es. 0) fromQueue (1 + c)
-    (λ s o h. (omega (arith, h, turn-less (opens fromQueue) fromQueue s o refl), omega (arith, h, records-one (turnOf fromQueue s o), turn-opened fromQueue s o)))
+    (λ s o h. (omega (arith, h, turn-less (opens fromQueue) fromQueue s o (none-after-turn (opens fromQueue) fromQueue (o .id) (s .book) refl)), omega (arith, h, records-one (turnOf fromQueue s o), turn-opened fromQueue s o)))
 
 product-most : (a b : ℕ) → a + b ≤ 65 → a * b ≤ 1_056
 product-most a b h =
@@ -213,9 +214,6 @@ without-few i es h = omega (arith, only-most (λ e. not (eqb (e .id) i)) es)
 modified-few : (c : Change) (n : ℕ) (es : List Entry) (f : Found) → Few es → Few (modified c n es f)
 modified-few c n es nobody h = h
 modified-few c n es (found e) h = added-few (without (c .id) es) (modifiedEntry c n e) (without-few (c .id) es h)
-
-abbrev newOrder : State → Terms → Entry
-newOrder s t = entryOf t (s .clock .next - 1) held
 
 order-few : (s : State) (a : Auction) (t : Terms) (wish : Bool) → Few (s .book) → Few (orderIntake s a t wish .state .book)
 unfolding orderIntake

@@ -16,8 +16,9 @@ use Rattle.rules.specs.Turn.{R, Offer, keyOf, place, sizesAt, sizes, isS
 use Rattle.rules.specs.Execution.{Mode, opens, rankOf, offerOf, offersOf, interest, upTo, allUpTo, turnOf, stageAfter, afterTurn, keep, settled, executed, inside}
 use Rattle.rules.specs.Best.{Each}
 use Rattle.rules.proofs.BasicsLaws.{sum-zeros, sum-plus}
-use Rattle.rules.proofs.TurnLaws.{Pairs, Covers, caps, caps-all, CutAt, First, each-map, each-both, places-rising, places-cover, fill-first, turn-below, turn-cut, turn-first}
-use Rattle.rules.proofs.TestLaws.{pick-both}
+use Rattle.rules.proofs.TurnLaws.{Pairs, Covers, caps, caps-all, CutAt, First, each-map, each-both, places-rising, places-cover, turn-below, turn-cut, turn-first}
+use Rattle.rules.proofs.TestLaws.{pick-both, pick-if, eq-of}
+use Rattle.rules.proofs.Invariant.{AllE, all-always}
 
 -- ---- the records of a turn: one for each offer that gives something
 
@@ -115,15 +116,15 @@ keep-less f e es = pick-both (λ (l : List Entry). (length l ≤ suc (length es)
 after-filled : (i n : ℕ) (t : Stage) (e : Entry) (g : ℕ) → g ≤ n → e .units ≤ g → afterTurn i n t e g .units ≡ 0
 after-filled i n t e g h l = pick-both (λ (a : Entry). a .units ≡ 0) (eqb (e .id) i) (omega arith) (omega arith)
 
-after-at : (f : Stage → Bool) (i n : ℕ) (t : Stage) (e : Entry) (g : ℕ) → f t ≡ false → one (f (afterTurn i n t e g .stage)) ≤ one (f (e .stage))
-after-at f i n t e g h = pick-both (λ (a : Entry). one (f (a .stage)) ≤ one (f (e .stage))) (eqb (e .id) i) (omega (arith, ap one h)) (omega arith)
+after-at : (f : Stage → Bool) (i n : ℕ) (t : Stage) (e : Entry) (g : ℕ) → (e .id ≡ i → one (f t) ≤ one (f (e .stage))) → one (f (afterTurn i n t e g .stage)) ≤ one (f (e .stage))
+after-at f i n t e g h = pick-if (λ (a : Entry). one (f (a .stage)) ≤ one (f (e .stage))) (eqb (e .id) i) (λ q. h (eq-of (e .id) i q)) (λ q. omega arith)
 
-settled-less : (f : Stage → Bool) (i n : ℕ) (t : Stage) (es : List Entry) (gs : List ℕ) → f t ≡ false
+settled-less : (f : Stage → Bool) (i n : ℕ) (t : Stage) (es : List Entry) (gs : List ℕ) → AllE (λ e. e .id ≡ i → one (f t) ≤ one (f (e .stage))) es
     → (length (settled i n t es gs) ≤ length es) × (at f (settled i n t es gs) ≤ at f es)
 unfolding settled
 settled-less f i n t [] gs h = omega arith
-settled-less f i n t (e ∷ es) [] h = omega (arith, keep-less f (afterTurn i n t e 0) (settled i n t es []), after-at f i n t e 0 h, settled-less f i n t es [] h)
-settled-less f i n t (e ∷ es) (g ∷ gs) h = omega (arith, keep-less f (afterTurn i n t e g) (settled i n t es gs), after-at f i n t e g h, settled-less f i n t es gs h)
+settled-less f i n t (e ∷ es) [] h = omega (arith, keep-less f (afterTurn i n t e 0) (settled i n t es []), after-at f i n t e 0 (h .0), settled-less f i n t es [] (h .1))
+settled-less f i n t (e ∷ es) (g ∷ gs) h = omega (arith, keep-less f (afterTurn i n t e g) (settled i n t es gs), after-at f i n t e g (h .0), settled-less f i n t es gs (h .1))
 
 -- ---- outside the queue: every offer that gives something gives all, but for the legs and one more
 
@@ -206,10 +207,14 @@ executed-book : (m : Mode) (s : State) (o : Entry) → executed m s (turnOf m s 
 unfolding executed turnOf
 executed-book m s o = refl
 
--- no turn adds to the book, nor to the stages f where the order's stage after it is not one of them
-pub turn-less : (f : Stage → Bool) (m : Mode) (s : State) (o : Entry) → f (stageAfter m) ≡ false
+-- no turn adds to the book, nor to the stages f where what its order becomes is not counted, or it was
+pub turn-less : (f : Stage → Bool) (m : Mode) (s : State) (o : Entry) → AllE (λ e. e .id ≡ o .id → one (f (stageAfter m)) ≤ one (f (e .stage))) (s .book)
     → (length (executed m s (turnOf m s o) .book) ≤ length (s .book)) × (at f (executed m s (turnOf m s o) .book) ≤ at f (s .book))
 turn-less f m s o h = rw (executed-book m s o) (settled-less f (o .id) (sum (grants m s o)) (stageAfter m) (s .book) (drop 1 (grants m s o)) h)
+
+-- nothing is counted at the stage that it comes to
+pub none-after-turn : (f : Stage → Bool) (m : Mode) (i : ℕ) (es : List Entry) → f (stageAfter m) ≡ false → AllE (λ e. e .id ≡ i → one (f (stageAfter m)) ≤ one (f (e .stage))) es
+none-after-turn f m i es h = all-always (λ e. e .id ≡ i → one (f (stageAfter m)) ≤ one (f (e .stage))) (λ e k. omega (arith, ap one h)) es
 
 -- at most one record for the legs and one for each entry at an open stage
 pub turn-opened : (m : Mode) (s : State) (o : Entry) → length (turnOf m s o .records) ≤ 1 + at (opens m) (s .book)

@@ -163,6 +163,7 @@ executed-inv m i s o v h r =
       ) (s .book) (bookGave m s t)
           (all-both (FitQueue (s .auction)) (λ e. e .id ≡ i → e ≡ o) (s .book) (v .queue) (find-only i (s .book) o h (v .order)));
       legs = v .legs;
+      some = v .some;
       few = v .few;
       quotes = lower-fit (t .order .buy) (legsGave m s t) (s .strategy .legs) (s .market) (v .quotes);
     }

@@ -9,7 +9,7 @@ use borrow.Author.Tests.{eq-eqb, ne-eqb}
 use lib.Dec.{eqb, ltb}
 use lib.IntN.{ℤ, pos, negsuc}
 use lib.ListN.{length}
-use Rattle.rules.specs.Basics.{pick, between, firstOf}
+use Rattle.rules.specs.Basics.{between, firstOf}
 use Rattle.rules.specs.Strategy.{Leg, Strategy, goodSide, allLegs, allPairs, nearRatio, goodRatios, gcdAll, openingRefusal, openingRow}
 use Rattle.rules.specs.Prices.{Quote, isLimit, offset, mostHeld, mostCents}
 use Rattle.rules.specs.Book.{held, queued, answer, isQueued, Entry, sameSide, withStage, Found, nobody, found, find, any, only, without, added, mostEntries}
@@ -17,10 +17,9 @@ use Rattle.rules.specs.Messages.{Terms, Change, Body, local, national, o
 use Rattle.rules.specs.Refusals.{everyRow, kindRow, goodLocal, goodNational, natural, goodFields, goodTerms, goodChange, refusal, localRow, nationalRow, orderRow, responseRow, modifyRow}
 use Rattle.rules.specs.State.{Pending, Auction, none, pending, State, withMarket, withBook, withAuction, taken}
 use Rattle.rules.specs.Auction.{eligible, auctionOf, endsByOrder, joins}
-use Rattle.rules.specs.Outcome.{byOrder}
-use Rattle.rules.specs.Step.{intake, goesOn, begins, joining, ends, localQuote, nationalQuote, changed, entryOf, modified, withNew, orderIntake, takeIn, modifiedEntry}
+use Rattle.rules.specs.Step.{localQuote, nationalQuote, changed, entryOf, modified, withNew, orderIntake, takeIn, modifiedEntry, Intake}
 use Rattle.rules.specs.Run.{noQuotes, startOf}
-use Rattle.rules.proofs.TestLaws.{le-of, eq-of, and-left, and-right, not-true, between-low, between-high}
+use Rattle.rules.proofs.TestLaws.{le-of, eq-of, and-left, and-right, not-true, between-low, between-high, pick-both, pick-if}
 use Rattle.rules.proofs.Invariant.{AllE, Ordered, FitEntry, FitQueue, FitLegs, FitQuotes, Inv, all-map, all-both, all-append, all-only, ordered-only, ordered-last, find-id, FitQuote}
 use Rattle.rules.proofs.RowLaws.{none-after, NoneOf, none-of}
 
@@ -75,6 +74,7 @@ taken-inv s time v =
       entries = all-map (FitEntry (s .clock .next)) (FitEntry (s .clock .next + 1)) (λ e p. (p .0, p .1, omega (arith, p .2))) (s .book) (v .entries);
       queue = v .queue;
       legs = v .legs;
+      some = v .some;
       few = v .few;
       quotes = v .quotes;
     }
@@ -89,10 +89,26 @@ taken-earlier s time v = all-map (FitEntry (s .clock .next)) (λ e. e .arrival <
 -- ---- the book changes
 
 market-inv : (s : State) (qs : List Quote) → Inv s → FitQuotes qs → Inv (withMarket s qs)
-market-inv s qs v f = record { order = v .order; entries = v .entries; queue = v .queue; legs = v .legs; few = v .few; quotes = f }
+market-inv s qs v f = record {
+  order = v .order;
+  entries = v .entries;
+  queue = v .queue;
+  legs = v .legs;
+  some = v .some;
+  few = v .few;
+  quotes = f;
+}
 
 book-inv : (s : State) (es : List Entry) → Inv s → Ordered es → AllE (FitEntry (s .clock .next)) es → AllE (FitQueue (s .auction)) es → Inv (withBook s es)
-book-inv s es v o f q = record { order = o; entries = f; queue = q; legs = v .legs; few = v .few; quotes = v .quotes }
+book-inv s es v o f q = record {
+  order = o;
+  entries = f;
+  queue = q;
+  legs = v .legs;
+  some = v .some;
+  few = v .few;
+  quotes = v .quotes;
+}
 
 last-ordered : (f : Entry) (n : ℕ) (es : List Entry) → f .arrival ≡ n → Ordered es → AllE (λ e. f .id ≡ e .id → ⊥) es → AllE (λ e. e .arrival < n) es → Ordered (es ++ (f ∷ []))
 last-ordered f n es k o p q =
@@ -116,23 +132,28 @@ without-none i (e ∷ es) =
 
 added-cases : (P : List Entry → Type 0) (es : List Entry) (e : Entry) → P es → P (es ++ (e ∷ [])) → P (added es e)
 unfolding added
-added-cases P es e p q = go (ltb (length es) mostEntries)
-  where
-    go : (b : Bool) → P (pick b (es ++ (e ∷ [])) es)
-    go true = q
-    go false = p
+added-cases P es e p q = pick-both P (ltb (length es) mostEntries) q p
 
 -- a state whose auction fits its queue, with another entry
 added-inv : (s : State) (a : Auction) (f : Entry) → Inv s → Earlier s → f .arrival ≡ s .clock .next - 1 → f .arrival < s .clock .next → 0 < f .units → f .price ≤ mostHeld
     → AllE (λ e. f .id ≡ e .id → ⊥) (s .book) → AllE (FitQueue a) (s .book) → FitQueue a f → Inv (withAuction (withNew s f) a)
 added-inv s a f v b k l u p n q r =
     added-cases (λ es. Inv (withAuction (withBook s es) a)) (s .book) f
-    (record { order = v .order; entries = v .entries; queue = q; legs = v .legs; few = v .few; quotes = v .quotes })
+    (record {
+      order = v .order;
+      entries = v .entries;
+      queue = q;
+      legs = v .legs;
+      some = v .some;
+      few = v .few;
+      quotes = v .quotes;
+    })
     (record {
       order = last-ordered f (s .clock .next - 1) (s .book) k (v .order) n b;
       entries = all-append (FitEntry (s .clock .next)) (s .book) (f ∷ []) (v .entries) ((u, p, l), tt);
       queue = all-append (FitQueue a) (s .book) (f ∷ []) q (r, tt);
       legs = v .legs;
+      some = v .some;
       few = v .few;
       quotes = v .quotes;
     })
@@ -163,30 +184,27 @@ joins-side : (s : State) (p : Pending) (w : Bool) (o : Entry) → joins s p w o 
 unfolding joins
 joins-side s p w o h = same-side (p .buy) (o .buy) (and-left (sameSide (p .buy) (o .buy)) w (and-left (sameSide (p .buy) (o .buy) && w) (eligible s o) h))
 
+-- the order as it comes in
+abbrev pub newOrder : State → Terms → Entry
+newOrder s t = entryOf t (s .clock .next - 1) held
+
+held-inv : (s : State) (t : Terms) → 0 < s .clock .next → Inv s → Earlier s → 0 < t .units → offset (t .price) ≤ mostHeld → AllE (λ e. t .id ≡ e .id → ⊥) (s .book) → Inv (withNew s (newOrder s t))
+held-inv s t nx v b u p n = added-inv s (s .auction) (newOrder s t) v b refl (omega arith) u p n (v .queue) (held-fit (s .auction) (newOrder s t) refl)
+
 order-inv : (s : State) (a : Auction) (t : Terms) (w : Bool) → s .auction ≡ a → 0 < s .clock .next → Inv s → Earlier s → 0 < t .units → offset (t .price) ≤ mostHeld → AllE (λ e. t .id ≡ e .id → ⊥) (s .book) → Inv (orderIntake s a t w .state)
 unfolding orderIntake
-order-inv s none t w h nx v b u p n = go (w && eligible s (entryOf t (s .clock .next - 1) held))
-  where
-    go : (c : Bool) → Inv (pick c (intake (withAuction (withNew s (withStage queued (entryOf t (s .clock .next - 1) held))) (auctionOf s (entryOf t (s .clock .next - 1) held) (s .clock .time))) begins) (intake (withNew s (entryOf t (s .clock .next - 1) held)) goesOn) .state)
-    go true =
-        added-inv s (auctionOf s (entryOf t (s .clock .next - 1) held) (s .clock .time)) (withStage queued (entryOf t (s .clock .next - 1) held)) v b refl (omega arith) u p n
-        (all-map (FitQueue none) (FitQueue (auctionOf s (entryOf t (s .clock .next - 1) held) (s .clock .time))) (λ e q z. absurd (true≢false (sym z ∙ q))) (s .book) (subst (λ (a : Auction). AllE (FitQueue a) (s .book)) h (v .queue)))
-        (λ z. refl)
-    go false = added-inv s (s .auction) (entryOf t (s .clock .next - 1) held) v b refl (omega arith) u p n (v .queue) (held-fit (s .auction) (entryOf t (s .clock .next - 1) held) refl)
-order-inv s (pending pd) t w h nx v b u p n = go (endsByOrder s pd (entryOf t (s .clock .next - 1) held)) (joins s pd w (entryOf t (s .clock .next - 1) held)) refl
-  where
-    plain : Inv (withNew s (entryOf t (s .clock .next - 1) held))
-    plain = added-inv s (s .auction) (entryOf t (s .clock .next - 1) held) v b refl (omega arith) u p n (v .queue) (held-fit (s .auction) (entryOf t (s .clock .next - 1) held) refl)
-
-    go : (c d : Bool) → joins s pd w (entryOf t (s .clock .next - 1) held) ≡ d
-        → Inv (pick c (intake (withNew s (entryOf t (s .clock .next - 1) held)) (ends byOrder))
-        (pick d (intake (withNew s (withStage queued (entryOf t (s .clock .next - 1) held))) joining) (intake (withNew s (entryOf t (s .clock .next - 1) held)) goesOn)) .state)
-    go true d e = plain
-    go false false e = plain
-    go false true e =
-        added-inv s (s .auction) (withStage queued (entryOf t (s .clock .next - 1) held)) v b refl (omega arith) u p n (v .queue)
-        (subst (λ (a : Auction). FitQueue a (withStage queued (entryOf t (s .clock .next - 1) held))) (sym h)
-        (λ z. joins-side s pd w (entryOf t (s .clock .next - 1) held) e))
+order-inv s none t w h nx v b u p n =
+    pick-both (λ (i : Intake). Inv (i .state)) (w && eligible s (newOrder s t))
+    (added-inv s (auctionOf s (newOrder s t) (s .clock .time)) (withStage queued (newOrder s t)) v b refl (omega arith) u p n
+    (all-map (FitQueue none) (FitQueue (auctionOf s (newOrder s t) (s .clock .time))) (λ e q z. absurd (true≢false (sym z ∙ q))) (s .book) (subst (λ (a : Auction). AllE (FitQueue a) (s .book)) h (v .queue)))
+    (λ z. refl))
+    (held-inv s t nx v b u p n)
+order-inv s (pending pd) t w h nx v b u p n =
+    pick-both (λ (i : Intake). Inv (i .state)) (endsByOrder s pd (newOrder s t)) (held-inv s t nx v b u p n)
+    (pick-if (λ (i : Intake). Inv (i .state)) (joins s pd w (newOrder s t))
+    (λ j. added-inv s (s .auction) (withStage queued (newOrder s t)) v b refl (omega arith) u p n (v .queue)
+    (subst (λ (a : Auction). FitQueue a (withStage queued (newOrder s t))) (sym h) (λ z. joins-side s pd w (newOrder s t) j)))
+    (λ j. held-inv s t nx v b u p n))
 
 -- ---- each kind
 
@@ -239,18 +257,10 @@ take-inv s r clock k nx v b h = v
 
 order-clock : (s : State) (a : Auction) (t : Terms) (w : Bool) → orderIntake s a t w .state .clock ≡ s .clock
 unfolding orderIntake
-order-clock s none t w = go (w && eligible s (entryOf t (s .clock .next - 1) held))
-  where
-    go : (c : Bool) → pick c (intake (withAuction (withNew s (withStage queued (entryOf t (s .clock .next - 1) held))) (auctionOf s (entryOf t (s .clock .next - 1) held) (s .clock .time))) begins) (intake (withNew s (entryOf t (s .clock .next - 1) held)) goesOn) .state .clock ≡ s .clock
-    go true = refl
-    go false = refl
-order-clock s (pending pd) t w = go (endsByOrder s pd (entryOf t (s .clock .next - 1) held)) (joins s pd w (entryOf t (s .clock .next - 1) held))
-  where
-    go : (c d : Bool) → pick c (intake (withNew s (entryOf t (s .clock .next - 1) held)) (ends byOrder))
-        (pick d (intake (withNew s (withStage queued (entryOf t (s .clock .next - 1) held))) joining) (intake (withNew s (entryOf t (s .clock .next - 1) held)) goesOn)) .state .clock ≡ s .clock
-    go true d = refl
-    go false true = refl
-    go false false = refl
+order-clock s none t w = pick-both (λ (i : Intake). i .state .clock ≡ s .clock) (w && eligible s (newOrder s t)) refl refl
+order-clock s (pending pd) t w =
+    pick-both (λ (i : Intake). i .state .clock ≡ s .clock) (endsByOrder s pd (newOrder s t)) refl
+    (pick-both (λ (i : Intake). i .state .clock ≡ s .clock) (joins s pd w (newOrder s t)) refl refl)
 
 pub take-clock : (s : State) (b : Body) → takeIn s b .state .clock ≡ s .clock
 unfolding takeIn
@@ -274,20 +284,22 @@ quotes-fit : (ls : List Leg) → FitQuotes (noQuotes ls)
 quotes-fit [] = tt
 quotes-fit (l ∷ ls) = ((omega arith, omega arith, omega arith, omega arith), quotes-fit ls)
 
-start-rows : (o : Strategy) → openingRefusal o ≡ 0 → (length (o .legs) ≤ 4) × (goodRatios (o .legs) ≡ true)
+start-rows : (o : Strategy) → openingRefusal o ≡ 0 → (2 ≤ length (o .legs)) × (length (o .legs) ≤ 4) × (goodRatios (o .legs) ≡ true)
 unfolding openingRefusal
 start-rows o h =
     let n : NoneOf (openingRow o) = none-of (openingRow o) refl h in
-    (between-high 2 (length (o .legs)) 4 (not-true (between 2 (length (o .legs)) 4) (n .0)), not-true (goodRatios (o .legs)) (n .1 .1 .1 .1 .0))
+    let b : between 2 (length (o .legs)) 4 ≡ true = not-true (between 2 (length (o .legs)) 4) (n .0) in
+    (between-low 2 (length (o .legs)) 4 b, between-high 2 (length (o .legs)) 4 b, not-true (goodRatios (o .legs)) (n .1 .1 .1 .1 .0))
 
 pub start-inv : (o : Strategy) → openingRefusal o ≡ 0 → Inv (startOf o)
 start-inv o h =
-    let p : (length (o .legs) ≤ 4) × (goodRatios (o .legs) ≡ true) = start-rows o h in
+    let p : (2 ≤ length (o .legs)) × (length (o .legs) ≤ 4) × (goodRatios (o .legs) ≡ true) = start-rows o h in
     record {
       order = tt;
       entries = tt;
       queue = tt;
-      legs = legs-fit (o .legs) (and-left (allLegs (λ l. between 1 (l .ratio) 9) (o .legs)) (allPairs nearRatio (o .legs)) (and-left (allLegs (λ l. between 1 (l .ratio) 9) (o .legs) && allPairs nearRatio (o .legs)) (eqb (gcdAll (o .legs)) 1) (p .1)));
-      few = p .0;
+      legs = legs-fit (o .legs) (and-left (allLegs (λ l. between 1 (l .ratio) 9) (o .legs)) (allPairs nearRatio (o .legs)) (and-left (allLegs (λ l. between 1 (l .ratio) 9) (o .legs) && allPairs nearRatio (o .legs)) (eqb (gcdAll (o .legs)) 1) (p .2)));
+      some = omega (arith, p .0);
+      few = p .1;
       quotes = quotes-fit (o .legs);
     }

@@ -7,12 +7,12 @@ use native.Mathlib.Decide.{ℕ-discrete, decLt}
 use native.Mathlib.Omega.{arith}
 use borrow.Author.Tests.{eq-eqb, ne-eqb, lt-ltb, le-ltb}
 use lib.ListN.{length}
-use Rattle.rules.specs.Basics.{pick}
 use Rattle.rules.specs.Strategy.{Leg}
 use Rattle.rules.specs.Prices.{Quote, mostHeld}
 use Rattle.rules.specs.Book.{Stage, isQueued, Entry, withStage, lessUnits, Found, nobody, found, find, only, released, releasedAll}
 use Rattle.rules.specs.State.{Auction, none, pending, State}
 use Rattle.rules.specs.Execution.{afterTurn, keep, settled}
+use Rattle.rules.proofs.TestLaws.{pick-both}
 
 abbrev pub AllE : (Entry → Type 0) → List Entry → Type 0
 AllE P [] = Unit {0}
@@ -48,6 +48,7 @@ pub record Inv (s : State) : Type 0 where
   pub entries : AllE (FitEntry (s .clock .next)) (s .book)
   pub queue : AllE (FitQueue (s .auction)) (s .book)
   pub legs : FitLegs (s .strategy .legs)
+  pub some : 1 ≤ length (s .strategy .legs)
   pub few : length (s .strategy .legs) ≤ 4
   pub quotes : FitQuotes (s .market)
 
@@ -56,6 +57,10 @@ pub record Inv (s : State) : Type 0 where
 pub all-map : (P Q : Entry → Type 0) → ((e : Entry) → P e → Q e) → (es : List Entry) → AllE P es → AllE Q es
 all-map P Q f [] p = tt
 all-map P Q f (e ∷ es) p = (f e (p .0), all-map P Q f es (p .1))
+
+pub all-always : (P : Entry → Type 0) → ((e : Entry) → P e) → (es : List Entry) → AllE P es
+all-always P f [] = tt
+all-always P f (e ∷ es) = (f e, all-always P f es)
 
 pub all-both : (P Q : Entry → Type 0) (es : List Entry) → AllE P es → AllE Q es → AllE (λ e. P e × Q e) es
 all-both P Q [] p q = tt
@@ -68,11 +73,7 @@ all-append P (e ∷ es) fs p q = (p .0, all-append P es fs (p .1) q)
 pub all-only : (P : Entry → Type 0) (f : Entry → Bool) (es : List Entry) → AllE P es → AllE P (only f es)
 unfolding only
 all-only P f [] p = tt
-all-only P f (e ∷ es) p = go (f e) (all-only P f es (p .1))
-  where
-    go : (b : Bool) → AllE P (only f es) → AllE P (pick b (e ∷ only f es) (only f es))
-    go true q = (p .0, q)
-    go false q = q
+all-only P f (e ∷ es) p = pick-both (λ (l : List Entry). AllE P l) (f e) (p .0, all-only P f es (p .1)) (all-only P f es (p .1))
 
 pub all-released : (P Q : Entry → Type 0) → ((e : Entry) → P e → Q (withStage (released (e .stage)) e)) → (es : List Entry) → AllE P es → AllE Q (releasedAll es)
 all-released P Q f [] p = tt
@@ -81,11 +82,8 @@ all-released P Q f (e ∷ es) p = (f e (p .0), all-released P Q f es (p .1))
 pub ordered-only : (f : Entry → Bool) (es : List Entry) → Ordered es → Ordered (only f es)
 unfolding only
 ordered-only f [] o = tt
-ordered-only f (e ∷ es) o = go (f e) (ordered-only f es (o .1))
-  where
-    go : (b : Bool) → Ordered (only f es) → Ordered (pick b (e ∷ only f es) (only f es))
-    go true q = (all-only (λ g. (g .id ≡ e .id → ⊥) × (e .arrival < g .arrival)) f es (o .0), q)
-    go false q = q
+ordered-only f (e ∷ es) o =
+    pick-both (λ (l : List Entry). Ordered l) (f e) (all-only (λ g. (g .id ≡ e .id → ⊥) × (e .arrival < g .arrival)) f es (o .0), ordered-only f es (o .1)) (ordered-only f es (o .1))
 
 pub ordered-released : (es : List Entry) → Ordered es → Ordered (releasedAll es)
 ordered-released [] o = tt

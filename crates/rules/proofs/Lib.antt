@@ -19,3 +19,5 @@ pub mod IntakeLaws
 pub mod RunLaws
 pub mod CountLaws
 pub mod BoundLaws
+pub mod RoomLaws
+pub mod CentsLaws

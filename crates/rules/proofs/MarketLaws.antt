@@ -12,15 +12,12 @@ use Rattle.rules.specs.Basics.{pick}
 use Rattle.rules.specs.Strategy.{Leg, isB}
 use Rattle.rules.specs.Prices.{Side, Quote, used, usesAsk, over, net, unitsShown, leastFrom, least, derived, lowered, lowerQuote, lower, mostHeld, mostCents}
 use Rattle.rules.proofs.Invariant.{FitLegs, FitQuotes, FitQuote}
+use Rattle.rules.proofs.TestLaws.{pick-both}
 
 -- ---- the range
 
-used-fit : (ask : Bool) (l : Leg) (q : Quote) → q .bid .price ≤ 999_999 → q .ask .price ≤ 999_999 → used ask l q .price ≤ 999_999
-used-fit ask l q h k = go (usesAsk ask l)
-  where
-    go : (b : Bool) → pick b (q .ask) (q .bid) .price ≤ 999_999
-    go true = k
-    go false = h
+pub used-fit : (ask : Bool) (l : Leg) (q : Quote) → FitQuote q → used ask l q .price ≤ 999_999
+used-fit ask l q h = pick-both (λ (s : Side). s .price ≤ 999_999) (usesAsk ask l) (h .1) (h .0)
 
 part-fit : (b c : Bool) (x y : ℕ) → x ≤ 9 → y ≤ 999_999 → pick c (pick b (x * y) 0) (pick b 0 (x * y)) ≤ 8_999_991
 part-fit true true x y h k = omega (arith, mul-le-mul-right y h)
@@ -28,19 +25,14 @@ part-fit true false x y h k = omega arith
 part-fit false true x y h k = omega arith
 part-fit false false x y h k = omega (arith, mul-le-mul-right y h)
 
-pub over-fit : (b ask : Bool) (ls : List Leg) (qs : List Quote) → FitLegs ls → FitQuotes qs → over b (λ l q. used ask l q .price) ls qs ≤ 8_999_991 * length ls
-over-fit b ask [] qs h k = omega arith
-over-fit b ask (l ∷ ls) [] h k = omega arith
-over-fit b ask (l ∷ ls) (q ∷ qs) h k =
-    omega (
-      arith,
-      part-fit b (isB (l .side)) (l .ratio) (used ask l q .price) (h .0 .1) (used-fit ask l q (k .0 .0) (k .0 .1)),
-      over-fit b ask ls qs (h .1) (k .1),
-    )
+pub over-fit : (b : Bool) (price : Leg → Quote → ℕ) → ((l : Leg) (q : Quote) → FitQuote q → price l q ≤ 999_999) → (ls : List Leg) (qs : List Quote) → FitLegs ls → FitQuotes qs → over b price ls qs ≤ 8_999_991 * length ls
+over-fit b price f [] qs h k = omega arith
+over-fit b price f (l ∷ ls) [] h k = omega arith
+over-fit b price f (l ∷ ls) (q ∷ qs) h k = omega (arith, part-fit b (isB (l .side)) (l .ratio) (price l q) (h .0 .1) (f l q (k .0)), over-fit b price f ls qs (h .1) (k .1))
 
 pub derived-fit : (ask : Bool) (ls : List Leg) (qs : List Quote) → FitLegs ls → FitQuotes qs → length ls ≤ 4 → derived ask ls qs .price ≤ mostHeld
 unfolding derived
-derived-fit ask ls qs h k n = omega (arith, over-fit true ask ls qs h k)
+derived-fit ask ls qs h k n = omega (arith, over-fit true (λ l q. used ask l q .price) (used-fit ask) ls qs h k)
 
 lowered-fit : (s : Side) (n : ℕ) → s .price ≤ 999_999 → lowered s n .price ≤ 999_999
 lowered-fit s n h =

@@ -151,6 +151,7 @@ closed-inv s v =
       entries = all-released (FitEntry (s .clock .next)) (FitEntry (s .clock .next)) (λ e p. p) (expired (s .book)) (all-only (FitEntry (s .clock .next)) keepIt (s .book) (v .entries));
       queue = all-released (FitQueue (s .auction)) (FitQueue none) (λ e p. released-queue (s .auction) e) (expired (s .book)) (all-only (FitQueue (s .auction)) keepIt (s .book) (v .queue));
       legs = v .legs;
+      some = v .some;
       few = v .few;
       quotes = v .quotes;
     }

@@ -28,13 +28,13 @@ diff-sub m n a b h =
       | no k ↦ rw (le-ltb m n (omega arith)) (omega arith)
     ]
 
-diff-plus : (x y : ℤ) (a b c d : ℕ) → IsDiff x a b → IsDiff y c d → IsDiff (x +ℤ y) (a + c) (b + d)
+pub diff-plus : (x y : ℤ) (a b c d : ℕ) → IsDiff x a b → IsDiff y c d → IsDiff (x +ℤ y) (a + c) (b + d)
 diff-plus (pos m) (pos n) a b c d h k = omega arith
 diff-plus (pos m) (negsuc n) a b c d h k = diff-sub m (suc n) (a + c) (b + d) (omega arith)
 diff-plus (negsuc m) (pos n) a b c d h k = diff-sub n (suc m) (a + c) (b + d) (omega arith)
 diff-plus (negsuc m) (negsuc n) a b c d h k = omega arith
 
-diff-neg : (k a b : ℕ) → a + k ≡ b → IsDiff (negℤ (pos k)) a b
+pub diff-neg : (k a b : ℕ) → a + k ≡ b → IsDiff (negℤ (pos k)) a b
 diff-neg zero a b h = omega arith
 diff-neg (suc k) a b h = h
 

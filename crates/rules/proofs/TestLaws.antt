@@ -58,7 +58,10 @@ pub pick-none : (b : Bool) → pick {A = ℕ} b 0 0 ≡ 0
 pick-none true = refl
 pick-none false = refl
 
--- what holds of both holds of the one that is picked
+-- what holds of each where it is picked holds of the one that is
+pub pick-if : {A : Type 0} (P : A → Type 0) (b : Bool) {x y : A} → (b ≡ true → P x) → (b ≡ false → P y) → P (pick b x y)
+pick-if P true p q = p refl
+pick-if P false p q = q refl
+
 pub pick-both : {A : Type 0} (P : A → Type 0) (b : Bool) {x y : A} → P x → P y → P (pick b x y)
-pick-both P true p q = p
-pick-both P false p q = q
+pick-both P b p q = pick-if P b (λ e. p) (λ e. q)

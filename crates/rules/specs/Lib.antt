@@ -20,3 +20,4 @@ pub mod Sharing
 pub mod Best
 pub mod Demand
 pub mod Bound
+pub mod Cents

@@ -1,7 +1,8 @@
 // Document 01 as definitions, in specs/, with their laws in proofs/. Each function states a claim, so that the check names it.
 ghost use Rattle.rules.specs.Best.{TurnIsBest};
-ghost use Rattle.rules.specs.Bound.{RecordsFit};
+ghost use Rattle.rules.specs.Bound.{PlacesSuffice, RecordsFit};
 ghost use Rattle.rules.specs.Cases.{CasesHold};
+ghost use Rattle.rules.specs.Cents.{PricesAreExact};
 ghost use Rattle.rules.specs.Demand.{Demand3OfRules};
 ghost use Rattle.rules.specs.Series.{ThirdFridaysFixed};
 ghost use Rattle.rules.specs.Sharing.{SharingIsExact};
@@ -14,6 +15,11 @@ pub fn cases_hold()
 // The table of 1,200 third Fridays says what the weekday rule says.
 pub fn third_fridays_fixed()
     ensures { λ r. ⌜ ThirdFridaysFixed ⌝ }
+{}
+
+// Prices, which are held as numbers from 0 on, are exact in signed cents.
+pub fn prices_are_exact()
+    ensures { λ r. ⌜ PricesAreExact ⌝ }
 {}
 
 // Shares sum to the amount, none is above its size, each is exact but for rounding, and leftover units go where document 01 puts them.
@@ -29,6 +35,11 @@ pub fn turn_is_best()
 // 2,000 places are enough for the records of a message, from every state of at most 64 entries.
 pub fn records_fit()
     ensures { λ r. ⌜ RecordsFit ⌝ }
+{}
+
+// At most 32 orders and 32 responses are open after every list of messages, so that a new entry finds a place.
+pub fn places_suffice()
+    ensures { λ r. ⌜ PlacesSuffice ⌝ }
 {}
 
 // Demand 3, of the rules' own answers.
