@@ -2,7 +2,7 @@
 use mathlib.Core.Path.{_≡_, refl, ap, sym, _∙_}
 use mathlib.Core.Bool.{Bool, true, false, _&&_}
 use mathlib.Core.List.{List, [], _∷_}
-use Prim.Native.Nat.{ℕ, suc, _+_, _-_, _*_, _/_, _%_, _≤_, _<_, min}
+use Prim.Native.Nat.{ℕ, suc, _+_, _*_, _/_, _%_, _≤_, _<_, min}
 use native.Mathlib.Nat.{mod-lt, div-add-mod', div-eq-of-lt}
 use native.Mathlib.Decide.{ℕ-discrete, decLt}
 use native.Mathlib.Omega.{arith}
@@ -17,23 +17,12 @@ use Rattle.rules.specs.State.{State}
 use Rattle.rules.specs.Run.{Sent, after, answerTo}
 use Rattle.rules.specs.Cents.{unitCost, allShow, Priced, PricesAreExact}
 use Rattle.rules.proofs.TestLaws.{le-of, pick-both}
-use Rattle.rules.proofs.SignedLaws.{IsDiff, diff-sub, diff-plus, diff-neg}
+use Rattle.rules.proofs.SignedLaws.{IsDiff, diff-sub, diff-plus, diff-neg, cents-diff}
 use Rattle.rules.proofs.Invariant.{FitLegs, FitQuote, Inv}
 use Rattle.rules.proofs.RunLaws.{step-fine, opened-inv}
 use Rattle.rules.proofs.MarketLaws.{over-fit, used-fit}
 
--- ---- limits
-
-limit-back : (z : ℤ) → isLimit z ≡ true → cents (offset z) ≡ z
-limit-back (pos n) h =
-    let d : mostCents + n - mostCents ≡ n = omega arith in
-    rw (le-ltb (mostCents + n) mostCents (omega arith), d)
-limit-back (negsuc n) h =
-    let l : n < mostCents = le-of (suc n) mostCents h in
-    let d : mostCents - suc (mostCents - suc n) ≡ n = omega arith in
-    rw (lt-ltb (mostCents - suc n) mostCents (omega arith), d)
-
--- ---- the cost of a unit
+-- ---- limits, and the cost of a unit
 
 -- a signed number is fixed by its difference
 diff-same : (x y : ℤ) (a b : ℕ) → IsDiff x a b → IsDiff y a b → x ≡ y
@@ -41,6 +30,13 @@ diff-same (pos m) (pos n) a b h k = ap pos (omega arith)
 diff-same (pos m) (negsuc n) a b h k = absurd (omega arith)
 diff-same (negsuc m) (pos n) a b h k = absurd (omega arith)
 diff-same (negsuc m) (negsuc n) a b h k = ap negsuc (omega arith)
+
+limit-diff : (z : ℤ) → isLimit z ≡ true → IsDiff z (offset z) mostCents
+limit-diff (pos n) h = omega arith
+limit-diff (negsuc n) h = omega (arith, le-of (suc n) mostCents h)
+
+limit-back : (z : ℤ) → isLimit z ≡ true → cents (offset z) ≡ z
+limit-back z h = diff-same (cents (offset z)) z (offset z) mostCents (cents-diff (offset z)) (limit-diff z h)
 
 cost-diff : (price : Leg → Quote → ℕ) (ls : List Leg) (qs : List Quote) → IsDiff (unitCost price ls qs) (over true price ls qs) (over false price ls qs)
 cost-diff price [] qs = omega arith

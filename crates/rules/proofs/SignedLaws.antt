@@ -54,7 +54,7 @@ diff-ge (pos m) (negsuc n) a b c d h k l = absurd (l .le)
 diff-ge (negsuc m) (pos n) a b c d h k l = omega arith
 diff-ge (negsuc m) (negsuc n) a b c d h k l = omega (arith, leb→le n m (l .le))
 
-cents-diff : (p : ℕ) → IsDiff (cents p) p mostCents
+pub cents-diff : (p : ℕ) → IsDiff (cents p) p mostCents
 cents-diff p = diff-sub p mostCents p mostCents refl
 
 cents-diff′ : (p : ℕ) → p ≤ mostHeld → IsDiff (cents p) mostCents (mostHeld - p)

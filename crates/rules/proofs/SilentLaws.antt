@@ -1,9 +1,9 @@
 -- After its turn an order that is still open finds nothing more in the same message.
 use mathlib.Core.Path.{_≡_, refl, ap, sym, _∙_, subst}
 use mathlib.Core.Bool.{Bool, true, false, _&&_, not, true≢false}
-use mathlib.Core.List.{List, [], _∷_}
+use mathlib.Core.List.{List, [], _∷_, take}
 use mathlib.Core.Logic.{_⊎_, inl, inr}
-use Prim.Native.Nat.{ℕ, _-_, _<_}
+use Prim.Native.Nat.{ℕ, _+_, _-_, _<_}
 use native.Mathlib.Decide.{ℕ-discrete, decLt}
 use native.Mathlib.Omega.{arith}
 use borrow.Author.Tests.{eq-eqb, ne-eqb, lt-ltb, le-ltb}
@@ -136,7 +136,10 @@ all-given m s o h =
 
 legs-given : (m : Mode) (s : State) (o : Entry) → 0 < o .units - sum (turnOf m s o .gave) → legsGave m s (turnOf m s o) ≡ shown o (contraPrice s (o .buy))
 unfolding interest
-legs-given m s o h = rw (all-given m s o h) (omega arith)
+legs-given m s o h = ap (λ (gs : List ℕ). sum (take 1 gs)) (all-given m s o h) ∙ alone (shown o (contraPrice s (o .buy)))
+  where
+    alone : (x : ℕ) → x + 0 ≡ x
+    alone x = omega arith
 
 legs-after : (m : Mode) (s : State) (o : Entry) → Inv s → 0 < o .units - sum (turnOf m s o .gave)
     → shown o (derived (o .buy) (s .strategy .legs) (lower (o .buy) (legsGave m s (turnOf m s o)) (s .strategy .legs) (s .market))) ≡ 0
