@@ -1,5 +1,6 @@
 //! The second program's commands: what they read, what they write, and how they fail.
 
+use second::gen::{gen, PROFILES};
 use second::print::tapeprint;
 use second::tape::Tape;
 use second::text::{dump, make};
@@ -13,6 +14,8 @@ usage: second COMMAND
   tapeprint [TAPE]   fills, refusals and what is left open
   make [TEXT]        the tape of a session in text
   dump [TAPE]        the text of a tape
+  gen PROFILE SEED   a random tape
+  gen --list         the profiles
 A file left out is standard input.
 ";
 
@@ -42,6 +45,7 @@ fn run(arguments: &[OsString]) -> Result<Vec<u8>, String> {
         Some("dump") => dump(&read_tape(rest)?)
             .map(String::into_bytes)
             .map_err(|misfit| format!("refused 60: {misfit}")),
+        Some("gen") => gen_command(rest),
         Some("help" | "--help" | "-h") => Ok(USAGE.as_bytes().to_vec()),
         _ => Err(format!(
             "no such command: {}\n{}",
@@ -49,6 +53,25 @@ fn run(arguments: &[OsString]) -> Result<Vec<u8>, String> {
             USAGE.trim_end()
         )),
     }
+}
+
+fn gen_command(arguments: &[OsString]) -> Result<Vec<u8>, String> {
+    let words: Vec<&str> = arguments.iter().filter_map(|word| word.to_str()).collect();
+    match words[..] {
+        ["--list"] => Ok(profile_list().into_bytes()),
+        [name, seed] => {
+            let seed = seed.parse().map_err(|_| format!("not a seed: {seed}"))?;
+            gen(name, seed).ok_or(format!("no such profile: {name} (gen --list has them)"))
+        }
+        _ => Err("gen wants a profile and a seed, or --list".into()),
+    }
+}
+
+fn profile_list() -> String {
+    let lines = PROFILES.iter();
+    lines
+        .map(|profile| format!("{:<11} {}\n", profile.name, profile.stresses))
+        .collect()
 }
 
 /// The tape, or as much of it as shows that it is too long.

@@ -198,7 +198,7 @@ impl Leg {
 impl Record {
     pub const BYTES: usize = 36;
 
-    fn read(record: &[u8]) -> Record {
+    pub fn read(record: &[u8]) -> Record {
         Record {
             kind: record[0],
             side: record[1],
