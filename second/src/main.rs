@@ -1,5 +1,6 @@
 //! The second program's commands: what they read, what they write, and how they fail.
 
+use second::explain::explain;
 use second::gen::{gen, PROFILES};
 use second::print::tapeprint;
 use second::tape::Tape;
@@ -14,6 +15,7 @@ usage: second COMMAND
   tapeprint [TAPE]   fills, refusals and what is left open
   make [TEXT]        the tape of a session in text
   dump [TAPE]        the text of a tape
+  explain [TAPE]     a tape told message by message
   gen PROFILE SEED   a random tape
   gen --list         the profiles
 A file left out is standard input.
@@ -45,6 +47,7 @@ fn run(arguments: &[OsString]) -> Result<Vec<u8>, String> {
         Some("dump") => dump(&read_tape(rest)?)
             .map(String::into_bytes)
             .map_err(|misfit| format!("refused 60: {misfit}")),
+        Some("explain") => Ok(explain(&read_tape(rest)?).into_bytes()),
         Some("gen") => gen_command(rest),
         Some("help" | "--help" | "-h") => Ok(USAGE.as_bytes().to_vec()),
         _ => Err(format!(

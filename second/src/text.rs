@@ -107,7 +107,7 @@ impl Field {
 // Writing the text.
 
 /// A letter or digit as itself, any other byte as 0x and two digits.
-fn show_letter(byte: u8) -> String {
+pub fn show_letter(byte: u8) -> String {
     if byte.is_ascii_alphanumeric() {
         char::from(byte).to_string()
     } else {
@@ -129,7 +129,7 @@ pub fn show_symbol(symbol: &[u8]) -> String {
 }
 
 /// A record's line: its kind's word and the fields that kind uses.
-pub fn show_record(record: &Record) -> String {
+fn show_record(record: &Record) -> String {
     let mut line = String::new();
     // Writing to a string does not fail.
     match Kind::of_number(record.kind) {

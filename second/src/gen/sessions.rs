@@ -375,7 +375,7 @@ pub fn late(random: &mut Random) -> Vec<u8> {
         if script.random.once_in(3) {
             script.order(true);
         }
-        if !script.begin_any() {
+        if !script.begin(script.plan.most_units * 3) {
             return;
         }
         for _ in 0..2 + script.random.below(6) {
