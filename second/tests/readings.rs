@@ -305,7 +305,7 @@ fn malformed_symbols_meet_2() {
         "XYZ   260116C00000000",
         "XYZ   260116C0002000 ",
         "XYZ   260116C+0020000",
-        "XYZ\0\0\0260116C00020000",
+        "XYZ\0\0\x00260116C00020000",
     ] {
         let mut session = spread();
         session.legs[0] = leg(symbol, 'B', 1, 5);
