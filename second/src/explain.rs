@@ -46,18 +46,7 @@ fn explain_session(tape: &Tape) -> String {
         text += &format!("\nmessage {position}, time {}: ", message.time);
         text += &request(&message.request);
         text += "\n";
-        text += &match outcome {
-            Outcome::Refused { number } => {
-                format!(
-                    "  refused {number}: {}\n",
-                    reason(&before, &message, number)
-                )
-            }
-            accepted => {
-                let number = before.next_number();
-                format!("  number {number}: {}\n", answer(&accepted, &engine))
-            }
-        };
+        text += &format!("  {}\n", answer(&outcome, &message, &before, &engine));
         text += &turns.text;
         if matches!(message.request, Request::Local { .. }) {
             text += &derived_line(&engine);
@@ -142,10 +131,10 @@ fn opening_reason(legs: &[Leg], settings: &Settings, number: Refusal) -> String 
                 legs[at].mpv
             )
         }
-        _ => format!(
-            "a setting outside: {}",
-            settings.outside().unwrap_or("none")
-        ),
+        _ => {
+            let (name, value) = settings.outside().unwrap_or(("none", 0));
+            format!("a setting outside: {name} {value}")
+        }
     }
 }
 
@@ -244,27 +233,38 @@ fn count_words(fills: usize) -> String {
     }
 }
 
-fn answer(outcome: &Outcome, after: &Engine) -> String {
+/// The outcome of a message, in the words of the states before and after it.
+fn answer(outcome: &Outcome, message: &Message, before: &Engine, after: &Engine) -> String {
+    let number = before.next_number();
     match outcome {
-        Outcome::Noted { fills } => format!("noted, {}", count_words(*fills)),
+        Outcome::Noted { fills } => format!("number {number}: noted, {}", count_words(*fills)),
         Outcome::Placed { units, fills } => {
-            format!("placed, {units} units open, {}", count_words(*fills))
+            let fills = count_words(*fills);
+            format!("number {number}: placed, {units} units open, {fills}")
         }
         Outcome::Begun { deadline } => {
             let start = after.auction().and_then(|auction| auction.starting_price);
             let start = start.map_or("none".to_string(), |price| price.to_string());
-            format!("begins an auction, deadline {deadline}, derived contra price {start}")
+            format!(
+                "number {number}: begins an auction, deadline {deadline}, derived contra price \
+                 {start}"
+            )
         }
-        Outcome::Joined { queue_units } => format!("joins the queue, {queue_units} units in it"),
+        Outcome::Joined { queue_units } => {
+            format!("number {number}: joins the queue, {queue_units} units in it")
+        }
         Outcome::Ended { cause, fills } => {
             let cause = match cause {
                 Cause::Time => "time",
                 Cause::Order => "order",
                 Cause::Legs => "legs",
             };
-            format!("ends the auction, cause {cause}, {}", count_words(*fills))
+            let fills = count_words(*fills);
+            format!("number {number}: ends the auction, cause {cause}, {fills}")
         }
-        Outcome::Refused { number } => format!("refused {number}"),
+        Outcome::Refused { number } => {
+            format!("refused {number}: {}", reason(before, message, *number))
+        }
     }
 }
 
@@ -387,7 +387,18 @@ fn reason(engine: &Engine, message: &Message, number: Refusal) -> String {
         (20, Request::Local { leg, .. } | Request::National { leg, .. }) => {
             format!("no such leg: {leg}, with {legs} legs from 0")
         }
-        (21, _) => "price or size outside, or one of them without the other".to_string(),
+        (21, Request::Local { quote, .. }) => {
+            let sides = [("bid", quote.bid), ("ask", quote.ask)];
+            let wrong = sides.iter().filter(|(_, side)| !side.fits());
+            let words = wrong.map(|(name, side)| format!("{name} {}", local_words(side)));
+            format!(
+                "price or size: {}",
+                words.collect::<Vec<String>>().join(", ")
+            )
+        }
+        (21, Request::National { quote, .. }) => {
+            format!("price: bid {}, ask {}", quote.bid, quote.ask)
+        }
         (22, Request::Local { quote, .. }) => {
             format!("bid {} not below ask {}", quote.bid.price, quote.ask.price)
         }

@@ -176,23 +176,47 @@ impl Settings {
     pub const MOST_NUMBER: u64 = 1_000_000_000_000_000;
     pub const MOST_TIME: u64 = 1_000_000_000_000_000;
 
-    /// The first setting outside its range, by its name.
-    pub fn outside(&self) -> Option<&'static str> {
-        let amount_fits = |at: usize| Settings::AMOUNT.contains(&self.amounts[at]);
-        [
-            ("interval", Settings::INTERVAL.contains(&self.interval)),
-            ("distance", Settings::DISTANCE.contains(&self.distance)),
-            ("most-legs", Settings::MOST_LEGS.contains(&self.most_legs)),
-            ("minimum", Settings::MINIMUM.contains(&self.minimum)),
-            ("amount-1", amount_fits(0)),
-            ("amount-5", amount_fits(1)),
-            ("amount-10", amount_fits(2)),
-            ("first-number", self.first_number <= Settings::MOST_NUMBER),
-            ("opening-time", self.opening_time <= Settings::MOST_TIME),
-        ]
-        .into_iter()
-        .find(|&(_, fits)| !fits)
-        .map(|(name, _)| name)
+    /// The first setting outside its range, with its value.
+    pub fn outside(&self) -> Option<(&'static str, u64)> {
+        let [one, five, ten] = self.amounts;
+        let fits = |amount: u16| Settings::AMOUNT.contains(&amount);
+        let settings: [(&str, u64, bool); 9] = [
+            (
+                "interval",
+                self.interval.into(),
+                Settings::INTERVAL.contains(&self.interval),
+            ),
+            (
+                "distance",
+                self.distance.into(),
+                Settings::DISTANCE.contains(&self.distance),
+            ),
+            (
+                "most legs",
+                self.most_legs.into(),
+                Settings::MOST_LEGS.contains(&self.most_legs),
+            ),
+            (
+                "minimum",
+                self.minimum.into(),
+                Settings::MINIMUM.contains(&self.minimum),
+            ),
+            ("amount for MPV 1", one.into(), fits(one)),
+            ("amount for MPV 5", five.into(), fits(five)),
+            ("amount for MPV 10", ten.into(), fits(ten)),
+            (
+                "first number",
+                self.first_number,
+                self.first_number <= Settings::MOST_NUMBER,
+            ),
+            (
+                "time",
+                self.opening_time,
+                self.opening_time <= Settings::MOST_TIME,
+            ),
+        ];
+        let outside = settings.iter().find(|(_, _, fits)| !fits);
+        outside.map(|&(name, value, _)| (name, value))
     }
 }
 

@@ -1,6 +1,6 @@
 //! The binary itself: its commands, their standard streams and their statuses.
 
-use std::io::{Read, Write};
+use std::io::Write;
 use std::process::{Command, Output, Stdio};
 
 fn second(arguments: &[&str], input: &[u8]) -> Output {
@@ -92,25 +92,23 @@ fn what_is_wrong_stands_on_standard_error() {
     fails(&["gen", "mix", "-1"], b"", "not a seed: -1");
 }
 
-/// A reader that goes away early: a failure, but no panic.
+/// A reader that goes away early: a failure, but no panic. The account of a long tape is more than
+/// a pipe holds.
 #[test]
 fn a_closed_pipe_does_no_harm() {
     let mut child = Command::new(env!("CARGO_BIN_EXE_second"))
-        .args(["gen", "long", "1"])
-        .stdin(Stdio::null())
+        .arg("explain")
+        .stdin(Stdio::piped())
         .stdout(Stdio::piped())
         .stderr(Stdio::piped())
         .spawn()
         .unwrap();
+    let tape = second::gen::gen("long", 1).unwrap();
+    child.stdin.take().unwrap().write_all(&tape).unwrap();
     // Nobody reads standard output any more.
     drop(child.stdout.take());
-    let mut error = String::new();
-    child
-        .stderr
-        .take()
-        .unwrap()
-        .read_to_string(&mut error)
-        .unwrap();
-    assert!(!child.wait().unwrap().success());
+    let output = child.wait_with_output().unwrap();
+    let error = String::from_utf8(output.stderr).unwrap();
+    assert!(!output.status.success());
     assert!(error.contains("cannot write standard output"), "{error}");
 }

@@ -121,3 +121,18 @@ fn a_seed_gives_the_same_tape_again() {
     assert_ne!(gen("mix", 7), gen("mix", 8));
     assert_eq!(gen("nosuch", 7), None);
 }
+
+#[test]
+fn the_wrong_profile_has_every_number_of_a_message() {
+    let mut counts = BTreeMap::new();
+    for seed in 0..SEEDS {
+        count(&gen("wrong", seed).unwrap(), &mut counts);
+    }
+    for number in [
+        11, 12, 13, 20, 21, 22, 30, 31, 32, 33, 40, 41, 42, 43, 50, 51,
+    ] {
+        let what = format!("refused {number:02}");
+        let times = counts.get(&what).copied().unwrap_or(0);
+        assert!(times >= 5, "{what} occurs {times} times");
+    }
+}

@@ -56,6 +56,15 @@ fn plain_tapes_come_back_byte_for_byte() {
     assert_eq!(make(dump(&own).unwrap().as_bytes()).unwrap(), own);
 }
 
+/// The readme's example is the own case.
+#[test]
+fn the_readme_shows_the_own_case() {
+    let readme = include_str!("../README.md");
+    let example = readme.split("```\n").nth(1).expect("an example");
+    let own = make(include_bytes!("../sessions/own-case.txt")).unwrap();
+    assert_eq!(make(example.as_bytes()).unwrap(), own);
+}
+
 /// The text takes wrong values of used fields, and keeps them.
 #[test]
 fn wrong_values_are_kept() {

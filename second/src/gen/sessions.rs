@@ -116,7 +116,11 @@ fn spoil_opening(script: &mut Script) {
             legs[at].symbol[10..12].copy_from_slice(&day);
         }
         4 if random.once_in(2) => legs[at].symbol[0] = b'Q',
-        4 => legs[1] = legs[0],
+        4 => {
+            let first = legs[0];
+            legs.truncate(1);
+            legs.push(first);
+        }
         5 => legs[at].ratio = random.pick(&[0, 9, 10, 255]),
         6 if random.once_in(2) => legs[at].side = random.pick(b"bsX\0"),
         6 => legs[at].mpv = random.pick(&[0, 2, 11, 255]),
@@ -275,6 +279,28 @@ fn order_at_the_filter(script: &mut Script) {
     }
 }
 
+/// Orders far from each other, so that they stay open, until one meets 32.
+fn fill_book(script: &mut Script) {
+    for _ in 0..=Book::MOST_ORDERS {
+        let side = script.random.side();
+        let net = script.net_of_middles();
+        let away = script.random.price(40..=60);
+        let price = match side {
+            Side::Buy => net - away,
+            Side::Sell => net + away,
+        };
+        let units = script.units_of();
+        script.order_at(side, price, units, false);
+    }
+}
+
+/// Responses until one meets 43.
+fn fill_responses(script: &mut Script) {
+    for _ in 0..=Book::MOST_RESPONSES {
+        script.response();
+    }
+}
+
 pub fn full_book(random: &mut Random) -> Vec<u8> {
     let plan = Plan {
         most_id: 200,
@@ -282,27 +308,10 @@ pub fn full_book(random: &mut Random) -> Vec<u8> {
         ..Plan::usual(random)
     };
     session(random, plan, 2, |script| {
-        let with_auction = script.random.once_in(2);
-        if with_auction {
+        if script.random.once_in(2) {
             script.begin_any();
         }
-        // Orders far from each other, so that they stay open.
-        while script.engine.book().orders().count() < Book::MOST_ORDERS {
-            let side = script.random.side();
-            let net = script.net_of_middles();
-            let away = script.random.price(40..=60);
-            let price = if side == Side::Buy {
-                net - away
-            } else {
-                net + away
-            };
-            let units = script.units_of();
-            let count = script.records.len();
-            script.order_at(side, price, units, false);
-            if script.records.len() == count || script.records.len() > 120 {
-                break;
-            }
-        }
+        fill_book(script);
         for _ in 0..12 {
             match script.random.below(4) {
                 0 => script.cancel(),
@@ -325,9 +334,7 @@ pub fn full_responses(random: &mut Random) -> Vec<u8> {
         if !script.begin_any() {
             return;
         }
-        for _ in 0..Book::MOST_RESPONSES + 4 {
-            script.response();
-        }
+        fill_responses(script);
         for _ in 0..6 {
             script.modify();
         }
@@ -448,11 +455,7 @@ pub fn multileg(random: &mut Random) -> Vec<u8> {
 }
 
 pub fn negative(random: &mut Random) -> Vec<u8> {
-    let usual = Plan::usual(random);
-    let plan = Plan {
-        legs: 2..=3,
-        ..usual
-    };
+    let plan = Plan::usual(random);
     let mut legs = some_legs(random, 2);
     legs[0].side = b'B';
     legs[1].side = b'S';
@@ -628,10 +631,8 @@ pub fn long(random: &mut Random) -> Vec<u8> {
     script.tape()
 }
 
-/// The numbers that a message can be refused with, but for 10 and 12.
-const REFUSABLE: [u8; 16] = [
-    11, 13, 20, 21, 22, 30, 31, 32, 33, 40, 41, 42, 43, 50, 51, 30,
-];
+/// The numbers that one message can be refused with; 12 and 32 need a session for it.
+const REFUSABLE: [u8; 14] = [11, 13, 20, 21, 22, 30, 31, 33, 40, 41, 42, 43, 50, 51];
 
 fn wrong_one(script: &mut Script) {
     let number = script.random.pick(&REFUSABLE);
@@ -639,7 +640,11 @@ fn wrong_one(script: &mut Script) {
 }
 
 pub fn wrong(random: &mut Random) -> Vec<u8> {
-    let plan = Plan::usual(random);
+    let mut plan = Plan::usual(random);
+    plan.most_id = 200;
+    if random.once_in(4) {
+        plan.settings.first_number = Settings::MOST_NUMBER - 100;
+    }
     session(random, plan, 120, |script| match script.random.below(8) {
         0 => script.anything(),
         1 => {
@@ -649,6 +654,8 @@ pub fn wrong(random: &mut Random) -> Vec<u8> {
             let leg = script.leg_of();
             script.national(leg);
         }
+        3 if script.random.once_in(16) => fill_book(script),
+        4 if script.random.once_in(16) => fill_responses(script),
         _ => wrong_one(script),
     })
     .tape()
