@@ -1,6 +1,7 @@
 //! What is open: held, live and queue orders, and the responses of a pending auction.
 
 use crate::strategy::{Cents, Side};
+use std::ops::RangeInclusive;
 
 /// "Account (1 customer, 2 not)."
 #[derive(Clone, Copy, PartialEq, Eq, Debug)]
@@ -44,9 +45,9 @@ pub struct Entry {
 }
 
 impl Entry {
-    pub const UNITS: std::ops::RangeInclusive<u32> = 1..=999_999;
+    pub const UNITS: RangeInclusive<u32> = 1..=999_999;
     /// "Net limits run from -40,000,000 to 40,000,000, zero included."
-    pub const LIMIT: std::ops::RangeInclusive<Cents> = -40_000_000..=40_000_000;
+    pub const LIMIT: RangeInclusive<Cents> = -40_000_000..=40_000_000;
 
     pub fn is_order(&self) -> bool {
         self.standing != Standing::Response

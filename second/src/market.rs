@@ -1,6 +1,7 @@
 //! "Prices": local and national quotes, the derived prices, and the filter.
 
 use crate::strategy::{Cents, OpenLeg, Side, Strategy};
+use std::ops::RangeInclusive;
 
 /// The two sides of a leg's quote.
 #[derive(Clone, Copy, PartialEq, Eq, Debug, Default)]
@@ -37,8 +38,8 @@ pub struct LocalSide {
 }
 
 impl LocalSide {
-    const PRICE: std::ops::RangeInclusive<Cents> = 1..=999_999;
-    const SIZE: std::ops::RangeInclusive<u32> = 1..=999_999;
+    pub const PRICE: RangeInclusive<Cents> = 1..=999_999;
+    pub const SIZE: RangeInclusive<u32> = 1..=999_999;
     const ABSENT: LocalSide = LocalSide { price: 0, size: 0 };
 
     pub fn is_absent(&self) -> bool {
@@ -61,7 +62,8 @@ impl LocalSide {
 
 /// "National sides are prices 1 to 999,999 alone, 0 for absent, and may lock or cross."
 pub fn national_side_fits(price: Cents) -> bool {
-    (0..=999_999).contains(&price)
+    const PRICE: RangeInclusive<Cents> = 1..=999_999;
+    price == 0 || PRICE.contains(&price)
 }
 
 /// A local derived price and its units.

@@ -2,6 +2,7 @@
 //! refusals 1 to 7.
 
 use crate::{refuse_if, Refusal};
+use std::ops::RangeInclusive;
 
 /// "All in cents."
 pub type Cents = i32;
@@ -167,11 +168,11 @@ pub struct Settings {
 }
 
 impl Settings {
-    pub const INTERVAL: std::ops::RangeInclusive<u16> = 1..=1_000;
-    pub const DISTANCE: std::ops::RangeInclusive<u16> = 0..=999;
-    pub const MOST_LEGS: std::ops::RangeInclusive<u16> = 2..=4;
-    pub const MINIMUM: std::ops::RangeInclusive<u32> = 1..=999_999;
-    pub const AMOUNT: std::ops::RangeInclusive<u16> = 0..=999;
+    pub const INTERVAL: RangeInclusive<u16> = 1..=1_000;
+    pub const DISTANCE: RangeInclusive<u16> = 0..=999;
+    pub const MOST_LEGS: RangeInclusive<u16> = 2..=4;
+    pub const MINIMUM: RangeInclusive<u32> = 1..=999_999;
+    pub const AMOUNT: RangeInclusive<u16> = 0..=999;
     /// The greatest arrival number and the greatest time.
     pub const MOST_NUMBER: u64 = 1_000_000_000_000_000;
     pub const MOST_TIME: u64 = 1_000_000_000_000_000;

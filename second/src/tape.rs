@@ -300,15 +300,15 @@ pub enum Misfit {
 
 impl fmt::Display for Misfit {
     fn fmt(&self, f: &mut fmt::Formatter) -> fmt::Result {
-        f.write_str(match self {
-            Misfit::TooShort => "the tape is under 40 bytes",
-            Misfit::TooLong => "the tape is over 65,535 bytes",
-            Misfit::LegsOverHeader => "the legs overlap the header",
-            Misfit::MessagesOverHeader => "the messages overlap the header",
-            Misfit::LegsPastEnd => "the legs run past the end",
-            Misfit::MessagesPastEnd => "the messages run past the end",
-            Misfit::SectionsOverlap => "the legs and the messages overlap",
-        })
+        match self {
+            Misfit::TooShort => write!(f, "the tape is under {} bytes", Header::BYTES),
+            Misfit::TooLong => write!(f, "the tape is over {} bytes", Tape::MOST_BYTES),
+            Misfit::LegsOverHeader => write!(f, "the legs overlap the header"),
+            Misfit::MessagesOverHeader => write!(f, "the messages overlap the header"),
+            Misfit::LegsPastEnd => write!(f, "the legs run past the end"),
+            Misfit::MessagesPastEnd => write!(f, "the messages run past the end"),
+            Misfit::SectionsOverlap => write!(f, "the legs and the messages overlap"),
+        }
     }
 }
 

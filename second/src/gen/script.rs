@@ -4,6 +4,7 @@ use super::random::Random;
 use crate::book::{Entry, Standing};
 use crate::engine::{Engine, Outcome};
 use crate::execution::{Fill, FillList};
+use crate::market::LocalSide;
 use crate::strategy::{ratios_fit, third_friday, Cents, Leg, Settings, Side};
 use crate::tape::{write_tape, Header, Record, Tape};
 use std::ops::RangeInclusive;
@@ -13,6 +14,16 @@ fn letter_of(side: Side) -> u8 {
         Side::Buy => b'B',
         Side::Sell => b'S',
     }
+}
+
+/// The nearest price that a leg's side may have.
+fn as_price(price: Cents) -> Cents {
+    price.clamp(*LocalSide::PRICE.start(), *LocalSide::PRICE.end())
+}
+
+/// The nearest limit that an order may have.
+fn as_limit(price: Cents) -> Cents {
+    price.clamp(*Entry::LIMIT.start(), *Entry::LIMIT.end())
 }
 
 /// What a session's values look like.
@@ -171,12 +182,13 @@ impl Script {
     // Quotes.
 
     pub fn quote(&mut self, leg: usize, bid: Cents, ask: Cents) -> Record {
+        let bid = as_price(bid).min(LocalSide::PRICE.end() - 1);
         Record {
             kind: 1,
             wish_or_leg: leg as u8,
             units: self.size_of(),
-            price: bid.clamp(1, 999_998),
-            ask: ask.clamp(bid.clamp(1, 999_998) + 1, 999_999),
+            price: bid,
+            ask: as_price(ask).max(bid + 1),
             ask_size: self.size_of(),
             time: self.soon(),
             ..Record::default()
@@ -206,8 +218,9 @@ impl Script {
             let ask = self.middles[leg] + self.random.price(0..=width);
             let mut record = self.quote(leg, bid, ask);
             let least = u32::from(self.legs[leg].ratio) * self.plan.most_units / 2;
-            record.units = record.units.max(least.max(9)).min(999_999);
-            record.ask_size = record.ask_size.max(least.max(9)).min(999_999);
+            let enough = |size: u32| size.max(least).max(9).min(*LocalSide::SIZE.end());
+            record.units = enough(record.units);
+            record.ask_size = enough(record.ask_size);
             self.send(record);
         }
     }
@@ -215,8 +228,8 @@ impl Script {
     pub fn national(&mut self, leg: usize) {
         let width = self.plan.width;
         let mut around = |price: Cents| price + self.random.price(-width..=width);
-        let bid = around(self.middles[leg] - 2).clamp(1, 999_999);
-        let ask = around(self.middles[leg] + 2).clamp(1, 999_999);
+        let bid = as_price(around(self.middles[leg] - 2));
+        let ask = as_price(around(self.middles[leg] + 2));
         let absent = self.random.once_in(15);
         let record = Record {
             kind: 2,
@@ -253,7 +266,7 @@ impl Script {
         let contra = self.engine.best_contra_price(side);
         let centre = contra.unwrap_or_else(|| self.net_of_middles());
         let price = centre + self.random.price(-stray..=stray);
-        price.clamp(*Entry::LIMIT.start(), *Entry::LIMIT.end())
+        as_limit(price)
     }
 
     pub fn net_of_middles(&self) -> Cents {
@@ -324,8 +337,7 @@ impl Script {
             side
         };
         let stray = self.plan.stray;
-        let price = (centre + self.random.price(-stray..=stray / 2))
-            .clamp(*Entry::LIMIT.start(), *Entry::LIMIT.end());
+        let price = as_limit(centre + self.random.price(-stray..=stray / 2));
         let units = self.units_of();
         self.response_at(side, price, units);
     }
@@ -355,7 +367,7 @@ impl Script {
             id: response.id,
             participant: response.participant,
             units: self.units_of(),
-            price: (response.limit + self.random.price(-3..=3)).clamp(-40_000_000, 40_000_000),
+            price: as_limit(response.limit + self.random.price(-3..=3)),
             time: self.soon(),
             ..Record::default()
         };
@@ -408,7 +420,7 @@ impl Script {
             Side::Buy => contra - miss,
             Side::Sell => contra + miss,
         };
-        let begun = self.order_at(side, price.clamp(-40_000_000, 40_000_000), units, true);
+        let begun = self.order_at(side, as_limit(price), units, true);
         matches!(begun, Some(Outcome::Begun { .. }))
     }
 
@@ -423,12 +435,7 @@ impl Script {
             Side::Sell => auction.limit + worse,
         };
         let units = self.units_of();
-        self.order_at(
-            auction.side,
-            price.clamp(-40_000_000, 40_000_000),
-            units,
-            wish,
-        );
+        self.order_at(auction.side, as_limit(price), units, wish);
     }
 
     pub fn end_by_time(&mut self) {
@@ -448,12 +455,7 @@ impl Script {
             };
             let units = self.units_of();
             let wish = self.random.once_in(2);
-            self.order_at(
-                auction.side,
-                price.clamp(-40_000_000, 40_000_000),
-                units,
-                wish,
-            );
+            self.order_at(auction.side, as_limit(price), units, wish);
         }
     }
 

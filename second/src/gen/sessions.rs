@@ -366,53 +366,65 @@ pub fn last_time(random: &mut Random) -> Vec<u8> {
 }
 
 pub fn late(random: &mut Random) -> Vec<u8> {
-    let plan = Plan::usual(random);
-    session(random, plan, 6, |script| {
-        for leg in 0..script.legs.len() {
-            // No start price, once in a while.
-            if script.random.once_in(3) {
-                let (price, ask) = (script.middles[leg] - 1, script.middles[leg] + 1);
-                let mut record = script.quote(leg, price, ask);
-                (record.ask, record.ask_size) = (0, 0);
-                script.send(record);
-            }
+    let mut plan = Plan::usual(random);
+    plan.width = 2;
+    plan.stray = 3;
+    plan.most_units = 6;
+    plan.settings.distance = 9;
+    session(random, plan, 6, late_auction).tape()
+}
+
+/// An auction that begins at the legs' price, or with no such price, and whose legs improve.
+fn late_auction(script: &mut Script) {
+    for _ in 0..3 {
+        script.cancel();
+    }
+    script.local_all();
+    let side = script.random.side();
+    let Some(start) = derived_price(script, side) else {
+        return;
+    };
+    let beyond = |cents: Cents| match side {
+        Side::Buy => start + cents,
+        Side::Sell => start - cents,
+    };
+    let units = script.units_of();
+    script.order_at(side.opposite(), beyond(4), units, false);
+    let hidden = script.random.once_in(3);
+    if hidden {
+        let mut nothing = script.quote(0, 1, 2);
+        (nothing.price, nothing.units) = (0, 0);
+        (nothing.ask, nothing.ask_size) = (0, 0);
+        script.send(nothing);
+    }
+    let limit = beyond(script.random.price(0..=3));
+    script.order_at(side, limit, script.plan.most_units * 3, true);
+    if hidden {
+        script.local_all();
+    }
+    for _ in 0..2 + script.random.below(5) {
+        match script.random.below(4) {
+            0 => script.response(),
+            1 => script.improve_legs(),
+            2 => script.join(true),
+            _ => response_at_the_legs(script, side),
         }
-        script.order(false);
-        script.order(false);
-        if script.random.once_in(3) {
-            script.order(true);
-        }
-        if !script.begin(script.plan.most_units * 3) {
-            return;
-        }
-        for _ in 0..2 + script.random.below(6) {
-            match script.random.below(5) {
-                0 => script.response(),
-                1 | 2 => script.improve_legs(),
-                3 => {
-                    if let Some(auction) = script.engine.auction().copied() {
-                        response_at_the_legs(script, auction.side);
-                    }
-                }
-                _ => {
-                    let leg = script.leg_of();
-                    script.local(leg);
-                }
-            }
-        }
-        script.end_by_time();
-    })
-    .tape()
+    }
+    script.end_by_time();
+}
+
+fn derived_price(script: &Script, side: Side) -> Option<Cents> {
+    let engine = &script.engine;
+    let derived = engine.market().derived_contra(engine.strategy(), side);
+    derived.map(|derived| derived.price)
 }
 
 /// A response at the derived contra price as it stands, so that legs and entries meet there.
 fn response_at_the_legs(script: &mut Script, initiator: Side) {
-    let engine = &script.engine;
-    let derived = engine.market().derived_contra(engine.strategy(), initiator);
-    match derived {
-        Some(derived) => {
+    match derived_price(script, initiator) {
+        Some(price) => {
             let units = script.units_of();
-            script.response_at(initiator.opposite(), derived.price, units);
+            script.response_at(initiator.opposite(), price, units);
         }
         None => script.response(),
     }
