@@ -1,0 +1,30 @@
+//! The complex order auction of document 01, told again from the papers alone.
+//!
+//! The modules follow the document: [`strategy`] (Strategy and series), [`market`] (Prices),
+//! [`book`] and [`engine`] (Order and auction life, Where a message is turned back),
+//! [`execution`] (Execution), [`tape`] and [`print`] (Tape). Nothing here reads or writes anything
+//! but its arguments; the binary does that.
+
+pub mod book;
+pub mod engine;
+pub mod execution;
+pub mod explain;
+pub mod gen;
+pub mod market;
+pub mod message;
+pub mod print;
+pub mod strategy;
+pub mod tape;
+pub mod text;
+
+/// A number of the table "Where a message is turned back".
+pub type Refusal = u8;
+
+/// One line of that table: the number applies if the condition does.
+fn refuse_if(condition: bool, number: Refusal) -> Result<(), Refusal> {
+    if condition {
+        Err(number)
+    } else {
+        Ok(())
+    }
+}

@@ -1,0 +1,114 @@
+//! The second program's commands: what they read, what they write, and how they fail.
+
+use second::explain::explain;
+use second::gen::{gen, PROFILES};
+use second::print::tapeprint;
+use second::tape::Tape;
+use second::text::{dump, make};
+use std::ffi::OsString;
+use std::fs::File;
+use std::io::{self, Read, Write};
+use std::process::ExitCode;
+
+const USAGE: &str = "\
+usage: second COMMAND
+  tapeprint [TAPE]   fills, refusals and what is left open
+  make [TEXT]        the tape of a session in text
+  dump [TAPE]        the text of a tape
+  explain [TAPE]     a tape told message by message
+  gen PROFILE SEED   a random tape
+  gen --list         the profiles
+A file left out is standard input.
+";
+
+/// The greatest text that `make` reads.
+const MOST_TEXT: usize = 16 * 1024 * 1024;
+
+fn main() -> ExitCode {
+    let arguments: Vec<OsString> = std::env::args_os().skip(1).collect();
+    match run(&arguments).and_then(|output| write_out(&output)) {
+        Ok(()) => ExitCode::SUCCESS,
+        Err(what) => {
+            // With standard error closed too there is nobody left to tell.
+            let _ = writeln!(io::stderr(), "second: {what}");
+            ExitCode::FAILURE
+        }
+    }
+}
+
+/// What the command prints.
+fn run(arguments: &[OsString]) -> Result<Vec<u8>, String> {
+    let Some((command, rest)) = arguments.split_first() else {
+        return Err(format!("no command\n{}", USAGE.trim_end()));
+    };
+    match command.to_str() {
+        Some("tapeprint") => Ok(tapeprint(&read_tape(rest)?).into_bytes()),
+        Some("make") => make(&read_text(rest)?).map_err(|error| error.to_string()),
+        Some("dump") => dump(&read_tape(rest)?)
+            .map(String::into_bytes)
+            .map_err(|misfit| format!("refused 60: {misfit}")),
+        Some("explain") => Ok(explain(&read_tape(rest)?).into_bytes()),
+        Some("gen") => gen_command(rest),
+        Some("help" | "--help" | "-h") => Ok(USAGE.as_bytes().to_vec()),
+        _ => Err(format!(
+            "no such command: {}\n{}",
+            command.to_string_lossy(),
+            USAGE.trim_end()
+        )),
+    }
+}
+
+fn gen_command(arguments: &[OsString]) -> Result<Vec<u8>, String> {
+    let words: Vec<&str> = arguments.iter().filter_map(|word| word.to_str()).collect();
+    match words[..] {
+        ["--list"] => Ok(profile_list().into_bytes()),
+        [name, seed] => {
+            let seed = seed.parse().map_err(|_| format!("not a seed: {seed}"))?;
+            gen(name, seed).ok_or(format!("no such profile: {name} (gen --list has them)"))
+        }
+        _ => Err("gen wants a profile and a seed, or --list".into()),
+    }
+}
+
+fn profile_list() -> String {
+    let lines = PROFILES.iter();
+    lines
+        .map(|profile| format!("{:<11} {}\n", profile.name, profile.stresses))
+        .collect()
+}
+
+/// The tape, or as much of it as shows that it is too long.
+fn read_tape(arguments: &[OsString]) -> Result<Vec<u8>, String> {
+    read(arguments, Tape::MOST_BYTES + 1)
+}
+
+fn read_text(arguments: &[OsString]) -> Result<Vec<u8>, String> {
+    let text = read(arguments, MOST_TEXT + 1)?;
+    if text.len() > MOST_TEXT {
+        return Err(format!("the text is over {MOST_TEXT} bytes"));
+    }
+    Ok(text)
+}
+
+/// At most so many bytes of the file named, or of standard input.
+fn read(arguments: &[OsString], most: usize) -> Result<Vec<u8>, String> {
+    let mut bytes = Vec::new();
+    match arguments {
+        [] => io::stdin()
+            .take(most as u64)
+            .read_to_end(&mut bytes)
+            .map_err(|error| format!("cannot read standard input: {error}"))?,
+        [path] => File::open(path)
+            .and_then(|file| file.take(most as u64).read_to_end(&mut bytes))
+            .map_err(|error| format!("cannot read {}: {error}", path.to_string_lossy()))?,
+        [_, more, ..] => return Err(format!("one argument too many: {}", more.to_string_lossy())),
+    };
+    Ok(bytes)
+}
+
+fn write_out(output: &[u8]) -> Result<(), String> {
+    let mut out = io::stdout().lock();
+    out.write_all(output)
+        .and_then(|()| out.flush())
+        .map_err(|error| format!("cannot write standard output: {error}"))
+}

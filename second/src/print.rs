@@ -1,0 +1,72 @@
+//! Running a tape through the engine, and what tapeprint prints of it.
+
+use crate::engine::{Engine, Outcome};
+use crate::execution::{Contra, Fill, FillList};
+use crate::strategy::Leg;
+use crate::tape::Tape;
+use crate::Refusal;
+use std::fmt::Write;
+
+/// Opens a tape's strategy and feeds it the messages; `each` is told every message's position,
+/// from 1, its outcome and its fill records. The engine as the tape leaves it is given back.
+pub fn run_tape(
+    bytes: &[u8],
+    mut each: impl FnMut(usize, &Outcome, &[Fill]),
+) -> Result<Engine, Refusal> {
+    let tape = Tape::read(bytes)?;
+    let legs: Vec<Leg> = tape.legs().collect();
+    let mut engine = Engine::open(&legs, &tape.header.settings)?;
+    let mut fills = vec![Fill::BLANK; FillList::LEAST_PLACES];
+    for (position, message) in (1..).zip(tape.messages()) {
+        let outcome = engine.apply(&message, &mut fills);
+        each(position, &outcome, &fills[..outcome.fill_count()]);
+    }
+    Ok(engine)
+}
+
+pub const TITLE: &str = "number order rank contra price units";
+
+/// "Contra 0 is the legs."
+pub fn contra_number(contra: Contra) -> u32 {
+    match contra {
+        Contra::Legs => 0,
+        Contra::Entry(id) => id,
+    }
+}
+
+fn fill_line(fill: &Fill) -> String {
+    format!(
+        "{} {} {} {} {} {}\n",
+        fill.number,
+        fill.order,
+        fill.rank.letter(),
+        contra_number(fill.contra),
+        fill.price,
+        fill.units
+    )
+}
+
+/// "The last line counts open orders and responses."
+pub fn last_line(engine: &Engine) -> String {
+    let orders = engine.book().orders().count();
+    let responses = engine.book().responses().count();
+    format!("open {orders} answers {responses}\n")
+}
+
+/// What tapeprint prints of a tape.
+pub fn tapeprint(bytes: &[u8]) -> String {
+    let mut text = format!("{TITLE}\n");
+    let run = run_tape(bytes, |position, outcome, fills| {
+        for fill in fills {
+            text.push_str(&fill_line(fill));
+        }
+        if let Outcome::Refused { number } = outcome {
+            // Writing to a string does not fail.
+            let _ = writeln!(text, "refused {position} {number}");
+        }
+    });
+    match run {
+        Ok(engine) => text + &last_line(&engine),
+        Err(number) => format!("refused 0 {number}\n"),
+    }
+}

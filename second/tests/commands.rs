@@ -1,0 +1,114 @@
+//! The binary itself: its commands, their standard streams and their statuses.
+
+use std::io::Write;
+use std::process::{Command, Output, Stdio};
+
+fn second(arguments: &[&str], input: &[u8]) -> Output {
+    let mut child = Command::new(env!("CARGO_BIN_EXE_second"))
+        .args(arguments)
+        .stdin(Stdio::piped())
+        .stdout(Stdio::piped())
+        .stderr(Stdio::piped())
+        .spawn()
+        .unwrap();
+    // A command that does not read its input may have gone already.
+    let _ = child.stdin.take().unwrap().write_all(input);
+    child.wait_with_output().unwrap()
+}
+
+fn own_case() -> String {
+    format!("{}/sessions/own-case.txt", env!("CARGO_MANIFEST_DIR"))
+}
+
+fn output(arguments: &[&str], input: &[u8]) -> Vec<u8> {
+    let output = second(arguments, input);
+    assert!(output.status.success(), "{arguments:?}");
+    assert!(output.stderr.is_empty());
+    output.stdout
+}
+
+#[test]
+fn the_own_case_goes_through_all_commands() {
+    let tape = output(&["make", &own_case()], b"");
+    let text = std::fs::read(own_case()).unwrap();
+    assert_eq!(output(&["make"], &text), tape);
+    let printed = output(&["tapeprint"], &tape);
+    let expected = "number order rank contra price units\n4 8 L 0 100 10\n4 8 R 7 100 5\n\
+                    refused 5 50\nopen 1 answers 0\n";
+    assert_eq!(String::from_utf8(printed).unwrap(), expected);
+    let dumped = output(&["dump"], &tape);
+    assert_eq!(output(&["make"], &dumped), tape);
+    let told = String::from_utf8(output(&["explain"], &tape)).unwrap();
+    assert!(told.contains("refused 50: no open order 9 of participant 1"));
+    assert!(told.contains("fill: 5 units at 100 with 7, rank R"));
+}
+
+#[test]
+fn gen_gives_tapes_and_lists_its_profiles() {
+    let tape = output(&["gen", "auction", "3"], b"");
+    assert_eq!(tape, second::gen::gen("auction", 3).unwrap());
+    let list = String::from_utf8(output(&["gen", "--list"], b"")).unwrap();
+    assert_eq!(list.lines().count(), second::gen::PROFILES.len());
+}
+
+#[test]
+fn a_refused_tape_is_an_answer_and_not_a_failure() {
+    assert_eq!(output(&["tapeprint"], b""), b"refused 0 60\n");
+    let told = output(&["explain"], &[0; 40]);
+    assert!(String::from_utf8(told)
+        .unwrap()
+        .contains("refused 0 1: not 2 to 4 legs, but 0"));
+}
+
+#[test]
+fn what_is_wrong_stands_on_standard_error() {
+    let fails = |arguments: &[&str], input: &[u8], what: &str| {
+        let output = second(arguments, input);
+        let error = String::from_utf8(output.stderr).unwrap();
+        assert!(!output.status.success(), "{arguments:?}");
+        assert!(error.contains(what), "{arguments:?}: {error}");
+        assert!(!error.contains("panicked"), "{error}");
+        assert!(output.stdout.is_empty());
+    };
+    fails(&[], b"", "no command");
+    fails(&["print"], b"", "no such command: print");
+    fails(
+        &["tapeprint", "no-such-file"],
+        b"",
+        "cannot read no-such-file",
+    );
+    fails(&["dump", env!("CARGO_MANIFEST_DIR")], b"", "cannot read");
+    fails(&["explain", "a", "b"], b"", "one argument too many: b");
+    fails(
+        &["dump"],
+        b"short",
+        "refused 60: the tape is under 40 bytes",
+    );
+    fails(&["make"], b"interval 5\nnonsense 1\n", "line 2: `nonsense`");
+    fails(&["make"], b"\xff\xfe", "line 1: ");
+    fails(&["gen"], b"", "gen wants a profile and a seed");
+    fails(&["gen", "nosuch", "1"], b"", "no such profile: nosuch");
+    fails(&["gen", "mix", "x"], b"", "not a seed: x");
+    fails(&["gen", "mix", "-1"], b"", "not a seed: -1");
+}
+
+/// A reader that goes away early: a failure, but no panic. The account of a long tape is more than
+/// a pipe holds.
+#[test]
+fn a_closed_pipe_does_no_harm() {
+    let mut child = Command::new(env!("CARGO_BIN_EXE_second"))
+        .arg("explain")
+        .stdin(Stdio::piped())
+        .stdout(Stdio::piped())
+        .stderr(Stdio::piped())
+        .spawn()
+        .unwrap();
+    let tape = second::gen::gen("long", 1).unwrap();
+    child.stdin.take().unwrap().write_all(&tape).unwrap();
+    // Nobody reads standard output any more.
+    drop(child.stdout.take());
+    let output = child.wait_with_output().unwrap();
+    let error = String::from_utf8(output.stderr).unwrap();
+    assert!(!output.status.success());
+    assert!(error.contains("cannot write standard output"), "{error}");
+}
