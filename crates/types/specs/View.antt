@@ -1,0 +1,252 @@
+-- What the engine's types stand for in the rules.
+use mathlib.Core.Bool.{false}
+use mathlib.Core.List.{List, [], _∷_}
+use Prim.Native.Nat.{ℕ, zero, suc, _+_, _-_, min}
+use lib.Dec.{eqb}
+use lib.ListN.{getD}
+use Rattle.rules.specs.Basics.{pick}
+use Rattle.types.specs.declared.Leg.{Leg}
+use Rattle.types.specs.declared.Settings.{Settings}
+use Rattle.types.specs.declared.Strategy.{Strategy}
+use Rattle.types.specs.declared.Quote.{Quote}
+use Rattle.types.specs.declared.Market.{Market}
+use Rattle.types.specs.declared.Derived.{Derived}
+use Rattle.types.specs.declared.Entry.{Entry}
+use Rattle.types.specs.declared.Book.{Book}
+use Rattle.types.specs.declared.Auction.{Auction}
+use Rattle.types.specs.declared.Clock.{Clock}
+use Rattle.types.specs.declared.State.{State}
+use Rattle.types.specs.declared.Local.{Local}
+use Rattle.types.specs.declared.National.{National}
+use Rattle.types.specs.declared.Order.{Order}
+use Rattle.types.specs.declared.Response.{Response}
+use Rattle.types.specs.declared.Modify.{Modify}
+use Rattle.types.specs.declared.Body.{Body}
+use Rattle.types.specs.declared.Body.the-variants.{Local as sentLocal, National as sentNational, Order as sentOrder, Response as sentResponse, Modify as sentModify, Cancel as sentCancel, Clock as sentClock}
+use Rattle.types.specs.declared.Message.{Message}
+use Rattle.types.specs.declared.Rank.{Rank}
+use Rattle.types.specs.declared.Rank.the-variants.{L as rankL, C as rankC, N as rankN, T as rankT, R as rankR}
+use Rattle.types.specs.declared.Contra.{Contra}
+use Rattle.types.specs.declared.Contra.the-variants.{Legs as contraLegs, Entry as contraEntry}
+use Rattle.types.specs.declared.Fill.{Fill}
+use Rattle.types.specs.declared.Cause.{Cause}
+use Rattle.types.specs.declared.Cause.the-variants.{Time as causeTime, Order as causeOrder, Legs as causeLegs}
+use Rattle.types.specs.declared.Outcome.{Outcome}
+use Rattle.types.specs.declared.Outcome.the-variants.{Noted as outNoted, Placed as outPlaced, Begun as outBegun, Joined as outJoined, Ended as outEnded, Refused as outRefused}
+use Rattle.types.specs.declared.Opened.{Opened}
+use Rattle.rules.specs.Strategy as S
+use Rattle.rules.specs.Prices as P
+use Rattle.rules.specs.Book as B
+use Rattle.rules.specs.State as T
+use Rattle.rules.specs.Messages as M
+use Rattle.rules.specs.Turn as U
+use Rattle.rules.specs.Outcome as O
+use Rattle.rules.specs.Run as R
+
+-- ---- tables
+
+-- the values of f at n places from k on
+unfoldable pub upto : {A : Type 0} → (ℕ → A) → ℕ → ℕ → List A
+upto f k zero = []
+upto f k (suc n) = f k ∷ upto f (k + 1) n
+
+-- the values of f at the places from k to before n
+abbrev pub from : {A : Type 0} → (ℕ → A) → ℕ → ℕ → List A
+from f k n = upto f k (n - k)
+
+-- ---- strategy
+
+-- a leg
+abbrev pub legOf : Leg → S.Leg
+legOf l = record { symbol = l .symbol; side = l .side; ratio = l .ratio; mpv = l .mpv }
+
+-- what stands in a place without a leg
+abbrev pub noLeg : Leg
+noLeg = record { symbol = []; side = 0; ratio = 0; mpv = 0 }
+
+-- the leg at a place
+abbrev pub legAt : Strategy → ℕ → S.Leg
+legAt s k = legOf (getD (s .legs) k noLeg)
+
+-- the settings
+abbrev pub settingsOf : Settings → S.Settings
+settingsOf c =
+    record {
+      interval = c .interval;
+      distance = c .distance;
+      mostLegs = c .legs;
+      amount1 = c .amounts .one;
+      amount5 = c .amounts .five;
+      amount10 = c .amounts .ten;
+      minimum = c .minimum;
+      firstNumber = c .first;
+      openingTime = c .time;
+    }
+
+-- how many legs a strategy of a state has, whatever its count
+abbrev pub legCount : Strategy → ℕ
+legCount s = min (s .count) 4
+
+-- the strategy of a state
+abbrev pub strategyOf : Strategy → S.Strategy
+strategyOf s = record { legs = from (legAt s) 0 (legCount s); settings = settingsOf (s .settings) }
+
+-- the strategy of an opening, which may count more legs than there are places
+abbrev pub openingOf : Strategy → S.Strategy
+openingOf s = record { legs = from (legAt s) 0 (s .count); settings = settingsOf (s .settings) }
+
+-- ---- market
+
+-- a quote
+abbrev pub quoteOf : Quote → P.Quote
+quoteOf q =
+    record {
+      bid = record { price = q .bid; size = q .bidsize };
+      ask = record { price = q .ask; size = q .asksize };
+      nationalBid = q .nationalbid;
+      nationalAsk = q .nationalask;
+    }
+
+-- what stands in a place without a quote
+abbrev pub noQuote : Quote
+noQuote = record { bid = 0; bidsize = 0; ask = 0; asksize = 0; nationalbid = 0; nationalask = 0 }
+
+-- the quote at a place
+abbrev pub quoteAt : Market → ℕ → P.Quote
+quoteAt m k = quoteOf (getD (m .quotes) k noQuote)
+
+-- the quotes of n legs
+abbrev pub marketOf : Market → ℕ → List P.Quote
+marketOf m n = from (quoteAt m) 0 n
+
+-- a derived price
+abbrev pub derivedOf : Derived → P.Derived
+derivedOf d = record { price = d .price; units = d .units }
+
+-- ---- book
+
+-- a stage
+abbrev pub stageOf : ℕ → B.Stage
+stageOf n = pick (eqb n 0) B.held (pick (eqb n 1) B.live (pick (eqb n 2) B.queued B.answer))
+
+-- an entry
+abbrev pub entryOf : Entry → B.Entry
+entryOf e =
+    record { id = e .id; participant = e .participant; buy = e .buy; customer = e .customer; price = e .price; units = e .units; arrival = e .arrival; stage = stageOf (e .stage) }
+
+-- the entry at a place of the book
+abbrev pub entryAt : Book → ℕ → B.Entry
+entryAt b k =
+    record {
+      id = getD (b .ids) k 0;
+      participant = getD (b .participants) k 0;
+      buy = getD (b .buys) k false;
+      customer = getD (b .customers) k false;
+      price = getD (b .prices) k 0;
+      units = getD (b .units) k 0;
+      arrival = getD (b .arrivals) k 0;
+      stage = stageOf (getD (b .stages) k 0);
+    }
+
+-- what a count shows of a table with 64 places
+abbrev pub shownBy : {A : Type 0} → (ℕ → A) → ℕ → List A
+shownBy f n = from f 0 (min n 64)
+
+-- the open entries, in arrival order
+abbrev pub entriesOf : Book → List B.Entry
+entriesOf b = shownBy (entryAt b) (b .count)
+
+-- ---- state
+
+-- the auction
+abbrev pub auctionOf : Auction → T.Auction
+auctionOf a = pick (a .pending) (T.pending (record { buy = a .buy; deadline = a .deadline; start = derivedOf (a .start) })) T.none
+
+-- the clock
+abbrev pub clockOf : Clock → T.Clock
+clockOf c = record { next = c .next; time = c .time }
+
+-- a state
+abbrev pub stateOf : State → T.State
+stateOf s =
+    record {
+      strategy = strategyOf (s .strategy);
+      market = marketOf (s .market) (legCount (s .strategy));
+      book = entriesOf (s .book);
+      auction = auctionOf (s .auction);
+      clock = clockOf (s .clock);
+    }
+
+-- ---- messages
+
+-- an order's terms
+abbrev pub orderTerms : Order → M.Terms
+orderTerms o = record { side = o .side; account = o .account; id = o .id; participant = o .participant; units = o .units; price = o .price }
+
+-- a response's
+abbrev pub responseTerms : Response → M.Terms
+responseTerms r = record { side = r .side; account = r .account; id = r .id; participant = r .participant; units = r .units; price = r .price }
+
+-- a modification
+abbrev pub changeOf : Modify → M.Change
+changeOf c = record { side = c .side; id = c .id; participant = c .participant; units = c .units; price = c .price }
+
+-- a local quote
+abbrev pub localOf : Local → M.Local
+localOf q = record { leg = q .leg; bidSize = q .bidsize; bid = q .bid; ask = q .ask; askSize = q .asksize }
+
+-- a national quote
+abbrev pub nationalOf : National → M.National
+nationalOf q = record { leg = q .leg; bid = q .bid; ask = q .ask }
+
+-- a message's body
+abbrev pub bodyOf : Body → M.Body
+bodyOf (sentLocal q) = M.local (localOf q)
+bodyOf (sentNational q) = M.national (nationalOf q)
+bodyOf (sentOrder o) = M.order (orderTerms o) (o .wish)
+bodyOf (sentResponse r) = M.response (responseTerms r)
+bodyOf (sentModify c) = M.modify (changeOf c)
+bodyOf (sentCancel c) = M.cancel (c .id) (c .participant)
+bodyOf sentClock = M.clock
+
+-- a message
+abbrev pub messageOf : Message → M.Message
+messageOf m = record { time = m .time; body = bodyOf (m .body) }
+
+-- ---- answers
+
+-- a rank
+abbrev pub rankOf : Rank → U.Rank
+rankOf rankL = U.L
+rankOf rankC = U.C
+rankOf rankN = U.N
+rankOf rankT = U.T
+rankOf rankR = U.R
+
+-- a contra
+abbrev pub contraOf : Contra → U.Contra
+contraOf contraLegs = U.legs
+contraOf (contraEntry i) = U.entry i
+
+-- a fill record
+abbrev pub fillOf : Fill → U.Fill
+fillOf f = record { number = f .number; order = f .order; rank = rankOf (f .rank); contra = contraOf (f .contra); price = f .price; units = f .units }
+
+-- the cause of an end
+abbrev pub causeOf : Cause → O.Cause
+causeOf causeTime = O.byTime
+causeOf causeOrder = O.byOrder
+causeOf causeLegs = O.byLegs
+
+-- an outcome
+abbrev pub outcomeOf : Outcome → O.Outcome
+outcomeOf (outNoted n) = O.Noted n
+outcomeOf (outPlaced u n) = O.Placed u n
+outcomeOf (outBegun t) = O.Begun t
+outcomeOf (outJoined u) = O.Joined u
+outcomeOf (outEnded c n) = O.Ended (causeOf c) n
+outcomeOf (outRefused n) = O.Refused n
+
+-- the answer to an opening
+abbrev pub openedOf : Opened → R.Opened
+openedOf o = pick (eqb (o .number) 0) (R.started (stateOf (o .state))) (R.refusedOpening (o .number))

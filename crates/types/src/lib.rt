@@ -1,0 +1,312 @@
+// The engine's types. Each bound of document 01 is an associated constant of the thing that it limits.
+// What a value stands for in the rules is its view, in specs/View.antt. Prices inside are cents + 40,000,000.
+
+// "A leg has a 21-byte symbol .., a side B or S as seen by a buyer of the strategy, a ratio, and a minimum price step".
+pub struct Leg {
+    pub symbol: [u8; 21],
+    pub side: u8,
+    pub ratio: u8,
+    pub mpv: u8,
+}
+
+impl Leg {
+    // The letters of the sides.
+    pub const B: u8 = 66;
+
+    pub const S: u8 = 83;
+
+    pub const LEAST_RATIO: u8 = 1;
+
+    pub const MOST_RATIO: u8 = 9;
+}
+
+// The amounts of the filter, for an MPV of 1, 5 and 10.
+pub struct Amounts {
+    pub one: u16,
+    pub five: u16,
+    pub ten: u16,
+}
+
+impl Amounts {
+    pub const MOST: u16 = 999;
+}
+
+// The class settings, the first arrival number and the opening's time.
+pub struct Settings {
+    pub first: u64,
+    pub time: u64,
+    pub minimum: u32,
+    pub interval: u16,
+    pub distance: u16,
+    pub legs: u16,
+    pub amounts: Amounts,
+}
+
+impl Settings {
+    pub const LEAST_INTERVAL: u16 = 1;
+
+    pub const MOST_INTERVAL: u16 = 1_000;
+
+    pub const MOST_DISTANCE: u16 = 999;
+
+    // Of the class's leg count.
+    pub const LEAST_LEGS: u16 = 2;
+
+    pub const MOST_LEGS: u16 = 4;
+
+    pub const LEAST_MINIMUM: u32 = 1;
+
+    pub const MOST_MINIMUM: u32 = 999_999;
+}
+
+// What is opened: the legs in use are the first `count`.
+pub struct Strategy {
+    pub legs: [Leg; 4],
+    pub count: usize,
+    pub settings: Settings,
+}
+
+impl Strategy {
+    pub const LEAST_LEGS: usize = 2;
+
+    pub const MOST_LEGS: usize = 4;
+}
+
+// A leg's local sides, price and size both 0 for absent, and its national prices, 0 for absent.
+pub struct Quote {
+    pub bid: u32,
+    pub bidsize: u32,
+    pub ask: u32,
+    pub asksize: u32,
+    pub nationalbid: u32,
+    pub nationalask: u32,
+}
+
+impl Quote {
+    pub const MOST_PRICE: u32 = 999_999;
+
+    pub const MOST_SIZE: u32 = 999_999;
+}
+
+// A quote for each leg.
+pub struct Market {
+    pub quotes: [Quote; 4],
+}
+
+// A derived price with its units; 0 units is none.
+pub struct Derived {
+    pub price: u64,
+    pub units: u32,
+}
+
+// An open order or response.
+pub struct Entry {
+    pub arrival: u64,
+    pub id: u32,
+    pub participant: u32,
+    pub price: u32,
+    pub units: u32,
+    pub buy: bool,
+    pub customer: bool,
+    pub stage: u8,
+}
+
+impl Entry {
+    // "An open order is held, live or in the auction queue"; the fourth is a response.
+    pub const HELD: u8 = 0;
+
+    pub const LIVE: u8 = 1;
+
+    pub const QUEUED: u8 = 2;
+
+    pub const RESPONSE: u8 = 3;
+
+    pub const MOST_UNITS: u32 = 999_999;
+
+    // "Net limits run from -40,000,000 to 40,000,000".
+    pub const MOST_CENTS: u32 = 40_000_000;
+}
+
+// The open orders and responses in arrival order, a column for each field; the places in use are the first `count`.
+pub struct Book {
+    pub arrivals: [u64; 64],
+    pub ids: [u32; 64],
+    pub participants: [u32; 64],
+    pub prices: [u32; 64],
+    pub units: [u32; 64],
+    pub buys: [bool; 64],
+    pub customers: [bool; 64],
+    pub stages: [u8; 64],
+    pub count: usize,
+}
+
+impl Book {
+    pub const MOST_ORDERS: usize = 32;
+
+    pub const MOST_RESPONSES: usize = 32;
+
+    pub const MOST_ENTRIES: usize = 64;
+}
+
+// The auction, if one is pending: its side, its deadline, and the derived contra price when it began.
+pub struct Auction {
+    pub pending: bool,
+    pub buy: bool,
+    pub deadline: u64,
+    pub start: Derived,
+}
+
+// The next arrival number, and the last accepted time.
+pub struct Clock {
+    pub next: u64,
+    pub time: u64,
+}
+
+impl Clock {
+    pub const MOST_NUMBER: u64 = 1_000_000_000_000_000;
+
+    pub const MOST_TIME: u64 = 1_000_000_000_000_000;
+}
+
+// What is carried from message to message.
+pub struct State {
+    pub strategy: Strategy,
+    pub market: Market,
+    pub book: Book,
+    pub auction: Auction,
+    pub clock: Clock,
+}
+
+// A local quote.
+pub struct Local {
+    pub leg: u8,
+    pub bidsize: u32,
+    pub bid: i32,
+    pub ask: i32,
+    pub asksize: u32,
+}
+
+// A national quote.
+pub struct National {
+    pub leg: u8,
+    pub bid: i32,
+    pub ask: i32,
+}
+
+// An order, with its auction wish.
+pub struct Order {
+    pub side: u8,
+    pub account: u8,
+    pub wish: bool,
+    pub id: u32,
+    pub participant: u32,
+    pub units: u32,
+    pub price: i32,
+}
+
+impl Order {
+    // "account (1 customer, 2 not)".
+    pub const CUSTOMER: u8 = 1;
+
+    pub const OTHER: u8 = 2;
+}
+
+// A response.
+pub struct Response {
+    pub side: u8,
+    pub account: u8,
+    pub id: u32,
+    pub participant: u32,
+    pub units: u32,
+    pub price: i32,
+}
+
+// A modification of a response.
+pub struct Modify {
+    pub side: u8,
+    pub id: u32,
+    pub participant: u32,
+    pub units: u32,
+    pub price: i32,
+}
+
+// The cancel of an order.
+pub struct Cancel {
+    pub id: u32,
+    pub participant: u32,
+}
+
+// The seven kinds.
+pub enum Body {
+    Local(Local),
+    National(National),
+    Order(Order),
+    Response(Response),
+    Modify(Modify),
+    Cancel(Cancel),
+    Clock,
+}
+
+pub struct Message {
+    pub time: u64,
+    pub body: Body,
+}
+
+// "rank L, legs; C, customer orders and responses; N, non-customer ones; T, late legs"; outside an auction R.
+pub enum Rank {
+    L,
+    C,
+    N,
+    T,
+    R,
+}
+
+// "A contra is either the legs or an open entry with its id".
+pub enum Contra {
+    Legs,
+    Entry(u32),
+}
+
+// A fill record; the price is in signed cents.
+pub struct Fill {
+    pub number: u64,
+    pub order: u32,
+    pub rank: Rank,
+    pub contra: Contra,
+    pub price: i32,
+    pub units: u32,
+}
+
+impl Fill {
+    // "fill list under 2,000 places".
+    pub const LEAST_ROOM: usize = 2_000;
+}
+
+// "cause: time, order or legs".
+pub enum Cause {
+    Time,
+    Order,
+    Legs,
+}
+
+// "The answer to a message is one of six outcomes".
+pub enum Outcome {
+    Noted(u32),
+    Placed(u32, u32),
+    Begun(u64),
+    Joined(u64),
+    Ended(Cause, u32),
+    Refused(u32),
+}
+
+// The answer to an opening: a state, or the number that refuses it and the empty state. Number 0 refuses nothing.
+pub struct Opened {
+    pub number: u32,
+    pub state: State,
+}
+
+// The answer to a message.
+pub struct Answer {
+    pub state: State,
+    pub outcome: Outcome,
+}
