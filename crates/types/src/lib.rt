@@ -125,6 +125,9 @@ impl Entry {
 
     // "Net limits run from -40,000,000 to 40,000,000".
     pub const MOST_CENTS: u32 = 40_000_000;
+
+    // The same as held.
+    pub const MOST_HELD: u32 = 80_000_000;
 }
 
 // The open orders and responses in arrival order, a column for each field; the places in use are the first `count`.

@@ -1,0 +1,125 @@
+// Signed cents and prices as held, the cents plus 40,000,000. Signed numbers are taken apart here and nowhere else.
+ghost use mathlib.Core.Path.{_≡_};
+ghost use Prim.Native.Nat.{_+_, _-_, _<_, _≤_, min};
+ghost use lib.IntN.{negsuc};
+ghost use Rattle.rules.specs.Prices.{mostHeld, isLimit, offset as offsetOf, cents as centsOf};
+ghost use Rattle.rules.specs.Refusals.{natural as naturalOf, goodLocal, goodNational};
+ghost use Rattle.price.specs.Signed.{signedOf};
+use types::Entry;
+use types::Quote;
+
+// A signed number by its sign: size, or -1 - size where it is negative.
+struct Signed {
+    pub negative: bool,
+    pub size: u32,
+}
+
+fn split(price: i32) -> Signed
+    ensures { λ r. ⌜ (price ≡ signedOf r) × (r .size < 2147483648) ⌝ }
+{
+    if price < 0 {
+        return Signed {
+            negative: true,
+            size: (-1 - price) as u32,
+        };
+    }
+    Signed {
+        negative: false,
+        size: price as u32,
+    }
+}
+
+// Whether a price is one that a limit can have.
+pub fn is_limit(price: i32) -> bool
+    ensures { λ r. ⌜ r ≡ isLimit price ⌝ }
+{
+    let s = split(price);
+    if s.negative {
+        return s.size < Entry::MOST_CENTS;
+    }
+    s.size <= Entry::MOST_CENTS
+}
+
+fn less(a: u32, b: u32) -> u32
+    ensures { λ r. ⌜ r ≡ a - b ⌝ }
+{
+    if b <= a { a - b } else { 0 }
+}
+
+// A price as held; one below every limit is held as 0.
+pub fn offset(price: i32) -> u32
+    ensures { λ r. ⌜ r ≡ offsetOf price ⌝ }
+{
+    let s = split(price);
+    if s.negative {
+        return less(Entry::MOST_CENTS, s.size + 1);
+    }
+    Entry::MOST_CENTS + s.size
+}
+
+// A leg's price as a number; a negative one is 0.
+pub fn natural(price: i32) -> u32
+    ensures { λ r. ⌜ r ≡ naturalOf price ⌝ }
+{
+    let s = split(price);
+    if s.negative {
+        return 0;
+    }
+    s.size
+}
+
+// A local side: "price 1 to 999,999 with size 1 to 999,999, or both 0 for absent".
+pub fn good_local(price: i32, size: u32) -> bool
+    ensures { λ r. ⌜ r ≡ goodLocal price size ⌝ }
+{
+    let s = split(price);
+    if s.negative {
+        return false;
+    }
+    let p = s.size;
+    if p == 0 {
+        return size == 0;
+    }
+    if size == 0 {
+        return false;
+    }
+    if Quote::MOST_PRICE < p {
+        return false;
+    }
+    size <= Quote::MOST_SIZE
+}
+
+// A national side: "prices 1 to 999,999 alone, 0 for absent".
+pub fn good_national(price: i32) -> bool
+    ensures { λ r. ⌜ r ≡ goodNational price ⌝ }
+{
+    let s = split(price);
+    if s.negative {
+        return false;
+    }
+    s.size <= Quote::MOST_PRICE
+}
+
+fn under(below: u32) -> i32
+    requires { ⌜ below < 2147483648 ⌝ }
+    ensures { λ r. ⌜ r ≡ negsuc below ⌝ }
+{
+    -1 - (below as i32)
+}
+
+fn lesser(a: u32, b: u32) -> u32
+    ensures { λ r. ⌜ r ≡ min a b ⌝ }
+{
+    if a < b { a } else { b }
+}
+
+// The signed cents of a price as held, which is at most 80,000,000.
+pub fn cents(held: u32) -> i32
+    ensures { λ r. ⌜ r ≡ centsOf (min held mostHeld) ⌝ }
+{
+    let p = lesser(held, Entry::MOST_HELD);
+    if p < Entry::MOST_CENTS {
+        return under(Entry::MOST_CENTS - 1 - p);
+    }
+    (p - Entry::MOST_CENTS) as i32
+}
