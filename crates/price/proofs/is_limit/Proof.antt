@@ -1,4 +1,4 @@
-use mathlib.Core.Path.{_≡_, refl, sym, ap, _∙_}
+use mathlib.Core.Path.{sym, ap}
 use Rattle.rules.specs.Prices.{isLimit}
 use Rattle.price.proofs.SignedLaws.{negative-is, positive-is}
 use borrow.Author.Needs.{needs}

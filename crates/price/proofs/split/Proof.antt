@@ -1,13 +1,12 @@
-use mathlib.Core.Path.{_≡_, refl, sym, ap, _∙_}
-use mathlib.Core.Bool.{true, false}
+use mathlib.Core.Path.{_≡_}
+use mathlib.Core.Bool.{true}
 use native.Mathlib.Omega.{arith}
-use lib.IntN.{ℤ, pos, negsuc, _-ℤ_, natAbs}
+use lib.IntN.{ℤ, pos, negsuc, _-ℤ_}
 use lib.Signed.{ltZ}
 use mir.Syntax.{w32}
 use mir.Val.{SFits, toZ, ofZ}
 use mir.Facts.{toZ-ofZ, toZ-pos, fits-natAbs}
 use Rattle.price.proofs.SignedLaws.{below, below-is, below-back, below-fits, not-below, pos-back, pos-fits}
-use borrow.Author.Needs.{needs}
 use Rattle.price.proofs.split.Statement.{statement}
 use Rattle.price.proofs.split.Tie as tie
 use Rattle.price.proofs.split.Reads as reads
