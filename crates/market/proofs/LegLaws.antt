@@ -1,7 +1,7 @@
 -- The legs and their quotes, one leg at a time.
 use mathlib.Core.Path.{_≡_, refl, ap, ap₂, sym, _∙_}
 use mathlib.Core.Bool.{Bool, true, false, _&&_, not, true≢false}
-use mathlib.Core.List.{List, map}
+use mathlib.Core.List.{List, [], _∷_, map}
 use Prim.Native.Nat.{ℕ, zero, suc, _+_, _-_, _*_, _/_, _≤_, _<_, min}
 use native.Mathlib.Nat.{mul-le-mul-right, div-zero}
 use native.Mathlib.Decide.{ℕ-discrete}
@@ -14,10 +14,12 @@ use Rattle.rules.specs.Basics.{pick}
 use Rattle.rules.specs.Strategy.{Leg, Strategy}
 use Rattle.rules.specs.Prices.{Side, Quote, usesAsk, nationalUsed, net, over, unitsShown, least, leastFrom, lowered, lowerQuote, lower}
 use Rattle.rules.specs.Filter.{allNational, amountFor, beyond, filtered, LegPrice, legPrice, smaller, smallest, smallestFrom, smallestRatio, smallestRatioFrom}
+use Rattle.rules.specs.Step.{changed}
 use Rattle.types.specs.declared.Quote.{Quote as Kept}
-use Rattle.types.specs.View.{from, quoteOf, noQuote}
-use Rattle.types.proofs.TableLaws.{from-cons, from-end}
-use Rattle.market.specs.Uses.{priceUsed, partOf}
+use Rattle.types.specs.declared.Market.{Market}
+use Rattle.types.specs.View.{from, quoteOf, quoteAt, noQuote}
+use Rattle.types.proofs.TableLaws.{from-cons, from-end, from-length}
+use Rattle.market.specs.Uses.{priceUsed, partOf, Replaces}
 
 -- the largest part: 255 × 4,294,967,295
 pub part-most : (x y : ℕ) → x ≤ 255 → y ≤ 4_294_967_295 → x * y ≤ 1_095_216_660_225
@@ -162,3 +164,40 @@ product-most amount ratio h k = omega (arith, mul-le-mul-right ratio h)
 pub not-false : (b : Bool) → not b ≡ true → b ≡ false
 not-false true h = absurd (true≢false (sym h))
 not-false false h = refl
+
+-- ---- one quote replaced
+
+module _ (g r : ℕ → Quote) (n : ℕ) where
+  from-same : (d j : ℕ) → n - j ≡ d → ((i : ℕ) → j ≤ i → r i ≡ g i) → from r j n ≡ from g j n
+  from-same zero j e p = rw (from-end r j n (omega arith), from-end g j n (omega arith))
+  from-same (suc d) j e p =
+      rw (from-cons r j n (omega arith), from-cons g j n (omega arith), p j (omega arith), from-same d (j + 1) (omega arith) (λ i h. p i (omega arith)))
+
+  from-changed : (f : Quote → Quote) (d j k : ℕ) → n - j ≡ d → r (j + k) ≡ f (g (j + k)) → ((i : ℕ) → j ≤ i → (i ≡ j + k → ⊥) → r i ≡ g i) → from r j n ≡ changed f k (from g j n)
+  from-changed f zero j k e h p = rw (from-end r j n (omega arith), from-end g j n (omega arith))
+  from-changed f (suc d) j zero e h p =
+      let z : j + 0 ≡ j = omega arith in
+      let q : r j ≡ f (g j) = rw z at h in
+      rw (from-cons r j n (omega arith), from-cons g j n (omega arith), q, from-same d (j + 1) (omega arith) (λ i l. p i (omega arith) (λ s. omega arith)))
+  from-changed f (suc d) j (suc k) e h p =
+      let z : j + suc k ≡ j + 1 + k = omega arith in
+      rw (
+        from-cons r j n (omega arith),
+        from-cons g j n (omega arith),
+        p j (omega arith) (λ s. omega arith),
+        from-changed f d (j + 1) k (omega arith) (rw z at h) (λ i l s. p i (omega arith) (λ t. s (t ∙ z))),
+      )
+
+pub replaced : (f : Quote → Quote) (l : List Kept) (k : ℕ) (x : Kept) → k < length l → quoteOf x ≡ f (quoteOf (getD l k noQuote)) → Replaces f k (record { quotes = l }) (record { quotes = set l k x })
+replaced f l k x h e n b =
+    from-changed (λ i. quoteOf (getD l i noQuote)) (λ i. quoteOf (getD (set l k x) i noQuote)) n f (n - 0) 0 k refl
+    (let z : 0 + k ≡ k = omega arith in rw z (ap quoteOf (getD-set-same l k x noQuote h) ∙ e))
+    (λ i l₀ s. ap quoteOf (getD-set-other l k i x noQuote (λ t. s (t ∙ (let z : k ≡ 0 + k = omega arith in z)))))
+
+pub not-replaced : (f : Quote → Quote) (m : Market) (k : ℕ) → 4 ≤ k → Replaces f k m m
+not-replaced f m k h n b = none (from (quoteAt m) 0 n) k (omega (arith, from-length (quoteAt m) 0 n))
+  where
+    none : (qs : List Quote) (j : ℕ) → length qs ≤ j → qs ≡ changed f j qs
+    none [] j l = refl
+    none (q ∷ qs) zero l = absurd (omega arith)
+    none (q ∷ qs) (suc j) l = ap (λ (x : List Quote). q ∷ x) (none qs j (omega arith))

@@ -7,13 +7,16 @@ ghost use Rattle.rules.specs.Basics.{pick};
 ghost use Rattle.rules.specs.Strategy.{isB};
 ghost use Rattle.rules.specs.Prices.{mostCents, usesAsk, unitsShown, over as overOf, net as netOf, least as leastOf, leastFrom, derived as derivedRule, lowerQuote, lower as lowerOf};
 ghost use Rattle.rules.specs.Filter.{allNational, amountFor, legPrice, smaller as smallerOf, smallest as smallestRule, smallestRatio as smallestRatioOf, beyond as beyondOf, filtered as filteredOf};
-ghost use Rattle.types.specs.View.{legOf, legAt, quoteOf, quoteAt, from, legCount, strategyOf, settingsOf, marketOf, derivedOf};
-ghost use Rattle.market.specs.Uses.{priceUsed, sizeUsed, partOf, legPriceOf};
+ghost use Rattle.types.specs.View.{legOf, legAt, quoteOf, quoteAt, from, legCount, strategyOf, settingsOf, marketOf, derivedOf, localOf, nationalOf};
+ghost use Rattle.rules.specs.Step.{localQuote, nationalQuote};
+ghost use Rattle.market.specs.Uses.{priceUsed, sizeUsed, partOf, legPriceOf, Replaces};
 use types::Amounts;
 use types::Derived;
 use types::Entry;
 use types::Leg;
+use types::Local;
 use types::Market;
+use types::National;
 use types::Quote;
 use types::Settings;
 use types::Strategy;
@@ -310,4 +313,58 @@ pub fn filtered(s: Strategy, m: Market, buy: bool, limit: u32) -> bool
     let amount = amount_for(c, smallest(buy, s, m));
     let most = (amount as u64) * (smallest_ratio(s) as u64);
     beyond(buy, most, limit as u64, contra)
+}
+
+// A quote with both local sides replaced.
+fn with_local(old: Quote, q: Local) -> Quote
+    ensures { λ r. ⌜ quoteOf r ≡ localQuote (localOf q) (quoteOf old) ⌝ }
+{
+    Quote {
+        bid: price::natural(q.bid),
+        bidsize: q.bidsize,
+        ask: price::natural(q.ask),
+        asksize: q.asksize,
+        nationalbid: old.nationalbid,
+        nationalask: old.nationalask,
+    }
+}
+
+// A quote with both national prices replaced.
+fn with_national(old: Quote, q: National) -> Quote
+    ensures { λ r. ⌜ quoteOf r ≡ nationalQuote (nationalOf q) (quoteOf old) ⌝ }
+{
+    Quote {
+        bid: old.bid,
+        bidsize: old.bidsize,
+        ask: old.ask,
+        asksize: old.asksize,
+        nationalbid: price::natural(q.bid),
+        nationalask: price::natural(q.ask),
+    }
+}
+
+// The market after a local quote.
+pub fn local_quoted(m: Market, q: Local) -> Market
+    ensures { λ r. ⌜ Replaces (localQuote (localOf q)) (q .leg) m r ⌝ }
+{
+    let k = q.leg as usize;
+    if Strategy::MOST_LEGS <= k {
+        return m;
+    }
+    let mut r = m;
+    r.quotes[k] = with_local(m.quotes[k], q);
+    r
+}
+
+// The market after a national quote.
+pub fn national_quoted(m: Market, q: National) -> Market
+    ensures { λ r. ⌜ Replaces (nationalQuote (nationalOf q)) (q .leg) m r ⌝ }
+{
+    let k = q.leg as usize;
+    if Strategy::MOST_LEGS <= k {
+        return m;
+    }
+    let mut r = m;
+    r.quotes[k] = with_national(m.quotes[k], q);
+    r
 }
