@@ -2,10 +2,11 @@
 ghost use mathlib.Core.Path.{_≡_};
 ghost use Prim.Native.Nat.{_+_, _-_, _<_, _≤_, min};
 ghost use lib.IntN.{negsuc};
-ghost use Rattle.rules.specs.Prices.{mostHeld, isLimit, offset as offsetOf, cents as centsOf};
+ghost use Rattle.rules.specs.Prices.{isLimit, offset as offsetOf, cents as centsOf};
 ghost use Rattle.rules.specs.Refusals.{natural as naturalOf, goodLocal, goodNational};
 ghost use Rattle.price.specs.Signed.{signedOf};
 use types::Entry;
+use types::Fill;
 use types::Quote;
 
 // A signed number by its sign: size, or -1 - size where it is negative.
@@ -100,26 +101,27 @@ pub fn good_national(price: i32) -> bool
     s.size <= Quote::MOST_PRICE
 }
 
-fn under(below: u32) -> i32
-    requires { ⌜ below < 2147483648 ⌝ }
+fn under(below: u64) -> i64
+    requires { ⌜ below < 9223372036854775808 ⌝ }
     ensures { λ r. ⌜ r ≡ negsuc below ⌝ }
 {
-    -1 - (below as i32)
+    -1 - (below as i64)
 }
 
-fn lesser(a: u32, b: u32) -> u32
+fn lesser(a: u64, b: u64) -> u64
     ensures { λ r. ⌜ r ≡ min a b ⌝ }
 {
     if a < b { a } else { b }
 }
 
-// The signed cents of a price as held, which is at most 80,000,000.
-pub fn cents(held: u32) -> i32
-    ensures { λ r. ⌜ r ≡ centsOf (min held mostHeld) ⌝ }
+// The signed cents of a price as held.
+pub fn cents(held: u64) -> i64
+    ensures { λ r. ⌜ r ≡ centsOf (min held 4611686018427387904) ⌝ }
 {
-    let p = lesser(held, Entry::MOST_HELD);
-    if p < Entry::MOST_CENTS {
-        return under(Entry::MOST_CENTS - 1 - p);
+    let p = lesser(held, Fill::MOST_HELD);
+    let zero = Entry::MOST_CENTS as u64;
+    if p < zero {
+        return under(zero - 1 - p);
     }
-    (p - Entry::MOST_CENTS) as i32
+    (p - zero) as i64
 }

@@ -125,9 +125,6 @@ impl Entry {
 
     // "Net limits run from -40,000,000 to 40,000,000".
     pub const MOST_CENTS: u32 = 40_000_000;
-
-    // The same as held.
-    pub const MOST_HELD: u32 = 80_000_000;
 }
 
 // The open orders and responses in arrival order, a column for each field; the places in use are the first `count`.
@@ -273,14 +270,17 @@ pub enum Contra {
 // A fill record; the price is in signed cents.
 pub struct Fill {
     pub number: u64,
+    pub price: i64,
     pub order: u32,
+    pub units: u32,
     pub rank: Rank,
     pub contra: Contra,
-    pub price: i32,
-    pub units: u32,
 }
 
 impl Fill {
+    // The greatest price as held that a record gives; no legs and no entry have one above it.
+    pub const MOST_HELD: u64 = 4_611_686_018_427_387_904;
+
     // "fill list under 2,000 places".
     pub const LEAST_ROOM: usize = 2_000;
 }

@@ -1,7 +1,7 @@
 use mathlib.Core.Path.{ap, _∙_}
 use Prim.Native.Nat.{_-_}
 use native.Mathlib.Omega.{arith}
-use mir.Syntax.{w32}
+use mir.Syntax.{w64}
 use mir.Facts.{toZ-ofZ, toZ-pos}
 use Rattle.rules.specs.Prices.{mostCents, cents}
 use Rattle.price.proofs.SignedLaws.{cents-low, cents-high}
@@ -16,6 +16,9 @@ use Rattle.price.proofs.under.Reads as under-reads
 lesser-requires : tie.Need-lesser-requires
 lesser-requires c κs = search needs
 
+cast-zero : tie.Need-cast-zero
+cast-zero c = search needs
+
 sub-under : tie.Need-sub-under
 sub-under c = search needs
 
@@ -28,7 +31,7 @@ under-requires c κs = search needs
 returns : tie.Need-returns
 returns c =
     let p = c .before .before .lesser .result in
-    toZ-ofZ {w = w32} {z = c .under .result} (search needs) ∙ c .under .ensures ∙ cents-low p (c .before .if1 .taken) ∙ ap cents (c .before .before .lesser .ensures)
+    toZ-ofZ {w = w64} {z = c .under .result} (search needs) ∙ c .under .ensures ∙ cents-low p (c .before .if1 .taken) ∙ ap cents (c .before .before .lesser .ensures)
 
 cast-result : tie.Need-cast-result
 cast-result c = search needs
@@ -36,9 +39,9 @@ cast-result c = search needs
 returns-2 : tie.Need-returns-2
 returns-2 c =
     let p = c .before .lesser .result in
-    toZ-pos w32 {n = p - mostCents} (omega (arith, c .before .lesser .ensures)) ∙ cents-high p (omega arith) ∙ ap cents (c .before .lesser .ensures)
+    toZ-pos w64 {n = p - mostCents} (omega (arith, c .before .lesser .ensures)) ∙ cents-high p (omega arith) ∙ ap cents (c .before .lesser .ensures)
 
 pub cents-spec : {M : Type 1} → statement M
 cents-spec =
     tie.close
-    (tie.spec lesser-requires sub-under sub-under-2 under-requires returns cast-result returns-2)
+    (tie.spec lesser-requires cast-zero sub-under sub-under-2 under-requires returns cast-result returns-2)
