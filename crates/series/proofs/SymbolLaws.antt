@@ -1,0 +1,109 @@
+-- A symbol's parts: where its capitals end, its numbers of two digits, a strike of zeros, and a date within the table.
+use mathlib.Core.Path.{_≡_, refl, sym, ap, _∙_}
+use mathlib.Core.Bool.{Bool, true, false, _&&_, not, and-assoc, or-false}
+use mathlib.Core.List.{List, [], _∷_}
+use Prim.Native.Nat.{ℕ, zero, suc, _+_, _-_, _*_, _≤_, _<_}
+use native.Mathlib.Omega.{arith}
+use borrow.Author.Tests.{eqb-true, eq-eqb, ne-eqb, le-leb, lt-ltb}
+use lib.Dec.{eqb, ltb}
+use lib.ListN.{length, getD, drop}
+use Rattle.rules.specs.Basics.{between}
+use Rattle.rules.specs.Series.{allBytes, isCapital, isDigit, isSpace, isPadded, digits, yearOf, monthOf, goodRoot, goodDate, goodType, goodStrike, goodSymbol}
+use Rattle.rules.proofs.TestLaws.{and-left, and-right, between-low, between-high}
+use Rattle.series.specs.Parts.{part}
+use Rattle.series.proofs.PartLaws.{part-cons, part-end, part-rest}
+
+-- tests that hold together are the same
+same-test : (x y : Bool) → (x ≡ true → y ≡ true) → (y ≡ true → x ≡ true) → x ≡ y
+same-test true y f g = sym (f refl)
+same-test false true f g = g refl
+same-test false false f g = refl
+
+-- the second of two tests counts only where the first holds
+and-if : (x y z : Bool) → (x ≡ true → y ≡ z) → (x && y) ≡ (x && z)
+and-if true y z f = f refl
+and-if false y z f = refl
+
+between-same : (b n : ℕ) → b ≡ n → between n b n ≡ true
+between-same b n e = rw (le-leb n b (omega arith), le-leb b n (omega arith))
+
+-- ---- the root
+
+pub space-between : (bs : List ℕ) → allBytes isSpace bs ≡ allBytes (λ b. between 32 b 32) bs
+space-between [] = refl
+space-between (b ∷ bs) =
+    let e : isSpace b ≡ between 32 b 32 =
+    same-test (isSpace b) (between 32 b 32) (λ h. between-same b 32 (eqb-true b 32 h)) (λ h. eq-eqb b 32 (omega (arith, between-low 32 b 32 h, between-high 32 b 32 h)))
+    in
+    rw (e, space-between bs)
+
+module _ (s : List ℕ) (k : ℕ) (l : 6 ≤ length s) (h : k < 6) where
+  pub padded-go : isCapital (getD s k 0) ≡ true → isPadded (part s k 6) ≡ isPadded (part s (k + 1) 6)
+  padded-go e =
+      let n : isSpace (getD s k 0) ≡ false = ne-eqb (getD s k 0) 32 (λ z. omega (arith, between-low 65 (getD s k 0) 90 e)) in
+      rw (part-cons s k 6 l h, e, n) (or-false (isPadded (part s (k + 1) 6)))
+
+  pub padded-stop : isCapital (getD s k 0) ≡ false → isPadded (part s k 6) ≡ allBytes isSpace (part s k 6)
+  padded-stop e = rw (part-cons s k 6 l h, e)
+
+pub padded-end : (s : List ℕ) (k : ℕ) → 6 ≤ k → isPadded (part s k 6) ≡ allBytes isSpace (part s k 6)
+padded-end s k h = rw (part-end s k 6 h)
+
+-- ---- numbers
+
+pub digits-two : (s : List ℕ) (k : ℕ) → k + 2 ≤ length s → digits 0 (part s k (k + 2)) ≡ (getD s k 0 - 48) * 10 + (getD s (k + 1) 0 - 48)
+digits-two s k l =
+    let e : k + 1 + 1 ≡ k + 2 = omega arith in
+    rw (part-cons s k (k + 2) l (omega arith), part-cons s (k + 1) (k + 2) l (omega arith), part-end s (k + 1 + 1) (k + 2) (omega arith)) (omega arith)
+
+-- digits write 0 where each is 0
+digits-zero : (bs : List ℕ) (n : ℕ) → allBytes isDigit bs ≡ true → ltb 0 (digits n bs) ≡ not (eqb n 0 && allBytes (λ b. between 48 b 48) bs)
+digits-zero [] zero h = refl
+digits-zero [] (suc n) h = rw (lt-ltb 0 (suc n) (omega arith), ne-eqb (suc n) 0 (λ e. omega arith))
+digits-zero (b ∷ bs) n h =
+    let low : 48 ≤ b = between-low 48 b 57 (and-left (isDigit b) (allBytes isDigit bs) h) in
+    let m : ℕ = n * 10 + (b - 48) in
+    let e : eqb m 0 ≡ (eqb n 0 && between 48 b 48) =
+    same-test (eqb m 0) (eqb n 0 && between 48 b 48)
+    (λ z. let q : m ≡ 0 = eqb-true m 0 z in rw (eq-eqb n 0 (omega arith), between-same b 48 (omega arith)))
+    (λ z.
+    let p : n ≡ 0 = eqb-true n 0 (and-left (eqb n 0) (between 48 b 48) z) in
+    let q : b ≤ 48 = between-high 48 b 48 (and-right (eqb n 0) (between 48 b 48) z) in
+    eq-eqb m 0 (omega arith))
+    in
+    digits-zero bs m (and-right (isDigit b) (allBytes isDigit bs) h)
+    ∙ ap (λ (t : Bool). not (t && allBytes (λ c. between 48 c 48) bs)) e
+    ∙ ap not (and-assoc (eqb n 0) (between 48 b 48) (allBytes (λ c. between 48 c 48) bs))
+
+pub strike-is : (s : List ℕ) → length s ≡ 21 → goodStrike s ≡ (allBytes isDigit (part s 13 21) && not (allBytes (λ b. between 48 b 48) (part s 13 21)))
+strike-is s l =
+    let e : part s 13 21 ≡ drop 13 s = part-rest s 13 21 (omega arith) in
+    rw e (and-if (allBytes isDigit (drop 13 s)) (ltb 0 (digits 0 (drop 13 s))) (not (allBytes (λ b. between 48 b 48) (drop 13 s))) (digits-zero (drop 13 s) 0))
+
+-- ---- the date
+
+pub date-of : (s : List ℕ) → goodSymbol s ≡ true → goodDate s ≡ true
+date-of s g =
+    let root : Bool = eqb (length s) 21 && goodRoot s in
+    and-right root (goodDate s)
+    (and-left (root && goodDate s) (goodType s) (and-left (root && goodDate s && goodType s) (goodStrike s) g))
+
+year-most : (s : List ℕ) → length s ≡ 21 → goodDate s ≡ true → yearOf s ≤ 99
+year-most s l d =
+    let a : Bool = isDigit (getD s 6 0) in
+    let b : Bool = isDigit (getD s 7 0) in
+    let all : (a && (b && allBytes isDigit (part s 8 12))) ≡ true =
+    sym (ap (allBytes isDigit) (part-cons s 6 12 (omega arith) (omega arith) ∙ ap (λ (r : List ℕ). getD s 6 0 ∷ r) (part-cons s 7 12 (omega arith) (omega arith))))
+    ∙ and-left (allBytes isDigit (part s 6 12)) (between 1 (monthOf s) 12) d
+    in
+    let p : getD s 6 0 ≤ 57 = between-high 48 (getD s 6 0) 57 (and-left a (b && allBytes isDigit (part s 8 12)) all) in
+    let q : getD s 7 0 ≤ 57 = between-high 48 (getD s 7 0) 57 (and-left b (allBytes isDigit (part s 8 12)) (and-right a (b && allBytes isDigit (part s 8 12)) all)) in
+    omega (arith, digits-two s 6 (omega arith))
+
+-- a good date's month stands in the table
+pub month-in : (s : List ℕ) → length s ≡ 21 → goodDate s ≡ true → (1 ≤ monthOf s) × (yearOf s * 12 + (monthOf s - 1) < 1_200)
+month-in s l d =
+    let m : between 1 (monthOf s) 12 ≡ true = and-right (allBytes isDigit (part s 6 12)) (between 1 (monthOf s) 12) d in
+    let low : 1 ≤ monthOf s = between-low 1 (monthOf s) 12 m in
+    let high : monthOf s ≤ 12 = between-high 1 (monthOf s) 12 m in
+    (low, omega (arith, year-most s l d))

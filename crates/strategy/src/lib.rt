@@ -1,0 +1,330 @@
+// The opening of a strategy: its legs, its ratios, its settings, and the row "Opening" of the table.
+use types::Amounts;
+use types::Auction;
+use types::Book;
+use types::Clock;
+use types::Derived;
+use types::Leg;
+use types::Market;
+use types::Opened;
+use types::Quote;
+use types::Settings;
+use types::State;
+use types::Strategy;
+ghost use mathlib.Core.Path.{_≡_};
+ghost use Prim.Native.Nat.{_+_, _≤_, _<_};
+ghost use Rattle.rules.specs.Basics.{between};
+ghost use Rattle.rules.specs.Strategy.{goodSide, goodMpv, allLegs, allPairs, nearRatio, gcd, gcdAll, goodRatios, goodSettings, openingRefusal};
+ghost use Rattle.rules.specs.Run.{opening};
+ghost use Rattle.types.specs.View.{legOf, legAt, settingsOf, openingOf, openedOf, from};
+ghost use Rattle.strategy.specs.Opening.{keepsOf, holdsOf, noStrategy, emptyMarket, emptyBook, openedState, openedWith};
+
+// What the table asks of each leg: number 2, 3, 5 and 6.
+enum LegRule {
+    Symbol,
+    Date,
+    Ratio,
+    SideAndMpv,
+}
+
+// What it asks of each two legs: number 4, twice, and 5.
+enum PairRule {
+    Root,
+    Symbol,
+    Ratio,
+}
+
+// "Ratios are 1 to 9".
+fn good_ratio(ratio: u8) -> bool
+    ensures { λ r. ⌜ r ≡ between 1 ratio 9 ⌝ }
+{
+    (Leg::LEAST_RATIO <= ratio) & (ratio <= Leg::MOST_RATIO)
+}
+
+// "side B or S".
+fn good_side(side: u8) -> bool
+    ensures { λ r. ⌜ r ≡ goodSide side ⌝ }
+{
+    (side == Leg::B) | (side == Leg::S)
+}
+
+// "a minimum price step (MPV, 002) of 1, 5 or 10 cents".
+fn good_mpv(mpv: u8) -> bool
+    ensures { λ r. ⌜ r ≡ goodMpv mpv ⌝ }
+{
+    (mpv == 1) | ((mpv == 5) | (mpv == 10))
+}
+
+// Whether a leg keeps a rule.
+fn keeps(leg: Leg, rule: LegRule) -> bool
+    ensures { λ r. ⌜ r ≡ keepsOf rule (legOf leg) ⌝ }
+{
+    let symbol = leg.symbol;
+    match rule {
+        LegRule::Symbol => series::good_symbol(symbol),
+        LegRule::Date => series::dated(symbol),
+        LegRule::Ratio => good_ratio(leg.ratio),
+        LegRule::SideAndMpv => good_side(leg.side) & good_mpv(leg.mpv),
+    }
+}
+
+// Whether all legs keep it.
+fn all_keep(o: Strategy, rule: LegRule) -> bool
+    requires { ⌜ o .count ≤ 4 ⌝ }
+    ensures { λ r. ⌜ r ≡ allLegs (keepsOf rule) (openingOf o .legs) ⌝ }
+{
+    let count = o.count;
+    let mut all = true;
+    let mut at: usize = 0;
+    while at < count {
+        all = all & keeps(o.legs[at], rule);
+        at += 1;
+    }
+    all
+}
+
+// "For any two legs neither ratio is above three times the other (002)".
+fn near(a: Leg, b: Leg) -> bool
+    ensures { λ r. ⌜ r ≡ nearRatio (legOf a) (legOf b) ⌝ }
+{
+    let first = a.ratio as u32;
+    let second = b.ratio as u32;
+    (first <= 3 * second) & (second <= 3 * first)
+}
+
+// Whether a rule holds between two legs.
+fn holds(a: Leg, b: Leg, rule: PairRule) -> bool
+    ensures { λ r. ⌜ r ≡ holdsOf rule (legOf a) (legOf b) ⌝ }
+{
+    let first = a.symbol;
+    let second = b.symbol;
+    match rule {
+        PairRule::Root => series::same_root(first, second),
+        PairRule::Symbol => !series::same_symbol(first, second),
+        PairRule::Ratio => near(a, b),
+    }
+}
+
+// Whether it holds between a leg and all later ones.
+fn later_hold(o: Strategy, place: usize, rule: PairRule) -> bool
+    requires { ⌜ (place < o .count) × (o .count ≤ 4) ⌝ }
+    ensures { λ r. ⌜ r ≡ allLegs (holdsOf rule (legAt o place)) (from (legAt o) (place + 1) (o .count)) ⌝ }
+{
+    let count = o.count;
+    let leg = o.legs[place];
+    let mut all = true;
+    let mut at = place + 1;
+    while at < count {
+        all = all & holds(leg, o.legs[at], rule);
+        at += 1;
+    }
+    all
+}
+
+// Whether it holds between every two legs.
+fn pairs_hold(o: Strategy, rule: PairRule) -> bool
+    requires { ⌜ o .count ≤ 4 ⌝ }
+    ensures { λ r. ⌜ r ≡ allPairs (holdsOf rule) (openingOf o .legs) ⌝ }
+{
+    let count = o.count;
+    let mut all = true;
+    let mut at: usize = 0;
+    while at < count {
+        all = all & later_hold(o, at, rule);
+        at += 1;
+    }
+    all
+}
+
+// "worked out by Euclid's rule, each step calling itself on a smaller pair".
+fn gcd(a: u8, b: u8) -> u8
+    ensures { λ r. ⌜ r ≡ gcd a b ⌝ }
+{
+    if b == 0 { a } else { gcd(b, a % b) }
+}
+
+// "The greatest common divisor of the ratios", the last leg first.
+fn gcd_all(o: Strategy) -> u8
+    requires { ⌜ o .count ≤ 4 ⌝ }
+    ensures { λ r. ⌜ r ≡ gcdAll (openingOf o .legs) ⌝ }
+{
+    let mut divisor: u8 = 0;
+    let mut at = o.count;
+    while 0 < at {
+        at -= 1;
+        divisor = gcd(o.legs[at].ratio, divisor);
+    }
+    divisor
+}
+
+// Number 5's condition.
+fn good_ratios(o: Strategy) -> bool
+    requires { ⌜ o .count ≤ 4 ⌝ }
+    ensures { λ r. ⌜ r ≡ goodRatios (openingOf o .legs) ⌝ }
+{
+    all_keep(o, LegRule::Ratio) & pairs_hold(o, PairRule::Ratio) & (gcd_all(o) == 1)
+}
+
+// Number 7's condition.
+fn good_settings(c: Settings) -> bool
+    ensures { λ r. ⌜ r ≡ goodSettings (settingsOf c) ⌝ }
+{
+    let interval = (Settings::LEAST_INTERVAL <= c.interval)
+        & (c.interval <= Settings::MOST_INTERVAL);
+    let legs = (Settings::LEAST_LEGS <= c.legs) & (c.legs <= Settings::MOST_LEGS);
+    let minimum = (Settings::LEAST_MINIMUM <= c.minimum) & (c.minimum <= Settings::MOST_MINIMUM);
+    interval
+        & (c.distance <= Settings::MOST_DISTANCE)
+        & legs
+        & minimum
+        & (c.amounts.one <= Amounts::MOST)
+        & (c.amounts.five <= Amounts::MOST)
+        & (c.amounts.ten <= Amounts::MOST)
+        & (c.first <= Clock::MOST_NUMBER)
+        & (c.time <= Clock::MOST_TIME)
+}
+
+// "2 to 4 legs".
+fn good_count(count: usize) -> bool
+    ensures { λ r. ⌜ r ≡ between 2 count 4 ⌝ }
+{
+    (Strategy::LEAST_LEGS <= count) & (count <= Strategy::MOST_LEGS)
+}
+
+// The number that turns an opening back, 0 for none: "First that applies, reading down".
+fn refusal(o: Strategy) -> u32
+    ensures { λ r. ⌜ r ≡ openingRefusal (openingOf o) ⌝ }
+{
+    if !good_count(o.count) {
+        return 1;
+    }
+    if !all_keep(o, LegRule::Symbol) {
+        return 2;
+    }
+    if !all_keep(o, LegRule::Date) {
+        return 3;
+    }
+    if !(pairs_hold(o, PairRule::Root) & pairs_hold(o, PairRule::Symbol)) {
+        return 4;
+    }
+    if !good_ratios(o) {
+        return 5;
+    }
+    if !all_keep(o, LegRule::SideAndMpv) {
+        return 6;
+    }
+    if !good_settings(o.settings) {
+        return 7;
+    }
+    0
+}
+
+// No strategy: what stands in the state of a refused opening.
+fn no_strategy() -> Strategy
+    ensures { λ r. ⌜ r ≡ noStrategy ⌝ }
+{
+    let symbol = [0u8; 21];
+    let leg = Leg {
+        symbol,
+        side: 0,
+        ratio: 0,
+        mpv: 0,
+    };
+    let legs = [leg; Strategy::MOST_LEGS];
+    let amounts = Amounts {
+        one: 0,
+        five: 0,
+        ten: 0,
+    };
+    let settings = Settings {
+        first: 0,
+        time: 0,
+        minimum: 0,
+        interval: 0,
+        distance: 0,
+        legs: 0,
+        amounts,
+    };
+    Strategy {
+        legs,
+        count: 0,
+        settings,
+    }
+}
+
+// "all leg sides absent".
+fn empty_market() -> Market
+    ensures { λ r. ⌜ r ≡ emptyMarket ⌝ }
+{
+    let quote = Quote {
+        bid: 0,
+        bidsize: 0,
+        ask: 0,
+        asksize: 0,
+        nationalbid: 0,
+        nationalask: 0,
+    };
+    let quotes = [quote; Strategy::MOST_LEGS];
+    Market { quotes }
+}
+
+// "nothing open".
+fn empty_book() -> Book
+    ensures { λ r. ⌜ r ≡ emptyBook ⌝ }
+{
+    let arrivals = [0u64; Book::MOST_ENTRIES];
+    let numbers = [0u32; Book::MOST_ENTRIES];
+    let flags = [false; Book::MOST_ENTRIES];
+    let stages = [0u8; Book::MOST_ENTRIES];
+    Book {
+        arrivals,
+        ids: numbers,
+        participants: numbers,
+        prices: numbers,
+        units: numbers,
+        buys: flags,
+        customers: flags,
+        stages,
+        count: 0,
+    }
+}
+
+// "all leg sides absent, nothing open, no auction".
+fn opened_state(o: Strategy) -> State
+    ensures { λ r. ⌜ r ≡ openedState o ⌝ }
+{
+    let market = empty_market();
+    let book = empty_book();
+    let start = Derived { price: 0, units: 0 };
+    let auction = Auction {
+        pending: false,
+        buy: false,
+        deadline: 0,
+        start,
+    };
+    let clock = Clock {
+        next: o.settings.first,
+        time: o.settings.time,
+    };
+    State {
+        strategy: o,
+        market,
+        book,
+        auction,
+        clock,
+    }
+}
+
+// An opening: its state, or the number that refuses it, with the state of no strategy.
+pub fn open(o: Strategy) -> Opened
+    ensures { λ r. ⌜ (r ≡ openedWith o) × (openedOf r ≡ opening (openingOf o)) ⌝ }
+{
+    let number = refusal(o);
+    if number == 0 {
+        let state = opened_state(o);
+        Opened { number, state }
+    } else {
+        let state = opened_state(no_strategy());
+        Opened { number, state }
+    }
+}
