@@ -133,7 +133,7 @@ fn least(ask: bool, s: Strategy, m: Market) -> u32
 
 // The derived ask, or the derived bid, with its units.
 pub fn derived(ask: bool, s: Strategy, m: Market) -> Derived
-    ensures { λ r. ⌜ derivedOf r ≡ derivedRule ask (strategyOf s .legs) (marketOf m (legCount s)) ⌝ }
+    ensures { λ r. ⌜ (derivedOf r ≡ derivedRule ask (strategyOf s .legs) (marketOf m (legCount s))) × (r .price ≤ 4380906640900) ⌝ }
 {
     let price = net(false, ask, s, m);
     let units = least(ask, s, m);

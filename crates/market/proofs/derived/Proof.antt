@@ -15,7 +15,7 @@ least-requires c κs = search needs
 
 returns : tie.Need-returns
 unfolding derived
-returns c = λ i. record { price = c .before .net .ensures .0 i; units = c .least .ensures i }
+returns c = (λ i. record { price = c .before .net .ensures .0 i; units = c .least .ensures i }, c .before .net .ensures .1)
 
 pub derived-spec : {M : Type 1} → statement M
 derived-spec = tie.close (tie.spec net-requires least-requires returns)
