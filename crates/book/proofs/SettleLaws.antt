@@ -11,7 +11,7 @@ use native.Mathlib.Omega.{arith}
 use borrow.Author.Tests.{lt-ltb, ne-eqb}
 use lib.Dec.{eqb, ltb}
 use lib.ListN.{length, take, drop, getD, drop-of-length-le, List·getD-eq-default}
-use lib.Seq.{drop-cons, take-nil}
+use lib.Seq.{drop-cons}
 use Rattle.rules.specs.Basics.{pick}
 use Rattle.rules.specs.Book.{Stage, Entry, only, withStage, lessUnits}
 use Rattle.rules.specs.Execution.{afterTurn, keep, settled}

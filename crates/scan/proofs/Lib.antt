@@ -2,3 +2,4 @@ pub mod StageLaws
 pub mod StoreLaws
 pub mod ScanLaws
 pub mod PlaceLaws
+pub mod RuleLaws

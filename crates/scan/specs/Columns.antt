@@ -2,8 +2,8 @@
 use mathlib.Core.Path.{_≡_}
 use mathlib.Core.Bool.{Bool, true, false, _&&_, _||_, not}
 use mathlib.Core.List.{List}
-use Prim.Native.Nat.{ℕ, _<_}
-use lib.ListN.{getD}
+use Prim.Native.Nat.{ℕ, _≤_, _<_}
+use lib.ListN.{length, drop, getD}
 use Rattle.rules.specs.Filter.{beyond}
 use Rattle.rules.specs.Book.{Entry, Found, nobody, found, sameSide, better, isHeld, isLive}
 use Rattle.types.specs.View.{from, stageOf}
@@ -59,3 +59,7 @@ picked f places n = from (λ i. f (getD places i 0)) 0 n
 -- each is a place of a book
 abbrev pub Inside : List ℕ → Type 0
 Inside places = (i : ℕ) → getD places i 0 < 64
+
+-- n numbers were written into 64 places; what stands behind them is as it was
+abbrev pub Written : List ℕ → List ℕ → ℕ → Type 0
+Written old new n = (n ≤ 64) × (length new ≡ 64) × (drop n new ≡ drop n old)
