@@ -1,0 +1,4 @@
+pub mod PutLaws
+pub mod PassLaws
+pub mod KeepLaws
+pub mod SettleLaws

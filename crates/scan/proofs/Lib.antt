@@ -1,0 +1,5 @@
+pub mod StageLaws
+pub mod StoreLaws
+pub mod ScanLaws
+pub mod PlaceLaws
+pub mod RuleLaws
