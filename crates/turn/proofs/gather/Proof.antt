@@ -1,0 +1,80 @@
+use mathlib.Core.Path.{_≡_, refl, sym, _∙_}
+use mathlib.Core.List.{_++_}
+use Prim.Native.Nat.{_-_, _≤_}
+use native.Mathlib.Omega.{arith}
+use lib.ListN.{length, take, drop}
+use borrow.Author.Needs.{needs}
+use Rattle.turn.specs.Slots.{sizesOf}
+use Rattle.share.proofs.LoopLaws.{done}
+use Rattle.turn.proofs.SlotLaws.{gather-step, sizes-end}
+use Rattle.turn.proofs.gather.Statement.{statement}
+use Rattle.turn.proofs.gather.Tie as tie
+
+abbrev Inv-loop : tie.InvT-loop
+Inv-loop places units n k out₀ i₀ out i = (i ≤ n) × (n ≤ 65) × (length places ≡ 65) × (length units ≡ 65) × (length out ≡ 65)
+    × (take i out ++ sizesOf k (drop i (take n places)) (drop i (take n units)) ≡ sizesOf k (take n places) (take n units))
+
+abbrev μ-loop : tie.MeasureT-loop
+μ-loop places units n k out₀ i₀ out i = n - i
+
+loop-holds : tie.Need-loop-holds Inv-loop μ-loop
+loop-holds c = (search needs, search needs, search needs, search needs, search needs, refl)
+
+mul-at : tie.Need-mul-at Inv-loop μ-loop
+mul-at c = search needs
+
+element-copy-out-at : tie.Need-element-copy-out-at Inv-loop μ-loop
+element-copy-out-at c = search needs
+
+mul-at-2 : tie.Need-mul-at-2 Inv-loop μ-loop
+mul-at-2 c = search needs
+
+element-copy-out-at-2 : tie.Need-element-copy-out-at-2 Inv-loop μ-loop
+element-copy-out-at-2 c = search needs
+
+at-requires : tie.Need-at-requires Inv-loop μ-loop
+at-requires c κs = search needs
+
+mul-out : tie.Need-mul-out Inv-loop μ-loop
+mul-out c = search needs
+
+element-write-out : tie.Need-element-write-out Inv-loop μ-loop
+element-write-out c = search needs
+
+add-i : tie.Need-add-i Inv-loop μ-loop
+add-i c = search needs
+
+loop-less : tie.Need-loop-less Inv-loop μ-loop
+loop-less c = search needs
+
+loop-again : tie.Need-loop-again Inv-loop μ-loop
+loop-again c =
+    let L = c .before .before .before .before in
+    let a = L .before .args in
+    let e = gather-step (a .n) (L .loop .i) (a .places .now) (a .units .now) (omega arith) (omega arith) (omega arith) (a .k) (L .loop .out) (omega arith) in
+    (omega arith, L .loop .inv .1, L .loop .inv .2, L .loop .inv .3, search needs, rw (c .at .ensures) (e ∙ L .loop .inv .5))
+
+returns : tie.Need-returns Inv-loop μ-loop
+returns c =
+    let a = c .before .before .args in
+    let L = c .before .loop in
+    (L .inv .4, sym (done (a .n) (L .i) (L .out) _ (omega arith) (omega arith) (sizes-end (a .n) (L .i) (omega arith) (a .k) (a .places .now) _)) ∙ L .inv .5)
+
+pub gather-spec : {M : Type 1} → statement M
+gather-spec =
+    tie.close
+    (tie.spec
+    Inv-loop
+    μ-loop
+    loop-holds
+    mul-at
+    element-copy-out-at
+    mul-at-2
+    element-copy-out-at-2
+    at-requires
+    mul-out
+    element-write-out
+    add-i
+    loop-less
+    loop-again
+    returns)
