@@ -278,6 +278,22 @@ impl Script {
         .sum()
     }
 
+    /// An order or a response with a new id, a moment from now.
+    fn entry_record(&mut self, kind: u8, side: Side, price: Cents, units: u32) -> Record {
+        let id = self.new_id();
+        Record {
+            kind,
+            side: letter_of(side),
+            account: self.random.account(),
+            id,
+            participant: Self::participant_of(id),
+            units,
+            price,
+            time: self.soon(),
+            ..Record::default()
+        }
+    }
+
     pub fn order_at(
         &mut self,
         side: Side,
@@ -285,18 +301,9 @@ impl Script {
         units: u32,
         wish: bool,
     ) -> Option<Outcome> {
-        let id = self.new_id();
         let record = Record {
-            kind: 3,
-            side: letter_of(side),
-            account: self.random.account(),
             wish_or_leg: u8::from(wish),
-            id,
-            participant: Self::participant_of(id),
-            units,
-            price,
-            time: self.soon(),
-            ..Record::default()
+            ..self.entry_record(3, side, price, units)
         };
         self.send(record)
     }
@@ -309,18 +316,7 @@ impl Script {
     }
 
     pub fn response_at(&mut self, side: Side, price: Cents, units: u32) {
-        let id = self.new_id();
-        let record = Record {
-            kind: 4,
-            side: letter_of(side),
-            account: self.random.account(),
-            id,
-            participant: Self::participant_of(id),
-            units,
-            price,
-            time: self.soon(),
-            ..Record::default()
-        };
+        let record = self.entry_record(4, side, price, units);
         self.send(record);
     }
 
