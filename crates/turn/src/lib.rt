@@ -164,7 +164,8 @@ pub fn turn<'a>(
 )
     requires { ⌜ (length (now places) ≡ 65) × (length (now units) ≡ 65) × (length (now gave) ≡ 65) ⌝ }
     ensures { λ _. ⌜ (length (now (gave .exit)) ≡ 65)
-        × IsTurn amount (take (min n 65) (now (places .entry))) (take (min n 65) (now (units .entry))) (take (min n 65) (now (gave .exit))) ⌝ }
+        × IsTurn amount (take (min n 65) (now (places .entry))) (take (min n 65) (now (units .entry))) (take (min n 65) (now (gave .exit)))
+        × (drop (min n 65) (now (gave .exit)) ≡ drop (min n 65) (now (gave .entry))) ⌝ }
 {
     let m = share::shown(n);
     share::in_turn(units, m, 0, gave);
