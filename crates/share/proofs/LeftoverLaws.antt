@@ -231,3 +231,8 @@ pub first-is : (n a : ℕ) (ss out : List ℕ) → n ≤ 65 → sum (take n ss) 
 first-is n a ss out h z e =
     let m : min n 65 ≡ n = omega arith in
     first-set n a out ∙ ap (λ (l : List ℕ). set l 0 a) (rw m at e) ∙ shares-first a (take n ss) z
+
+pub none-is : (n a : ℕ) (ss out : List ℕ) → n ≤ 0 → take n out ≡ shares a (take n ss)
+unfolding inTurn
+none-is zero a ss out h = shares-first a [] refl
+none-is (suc n) a ss out h = absurd (omega arith)

@@ -1,7 +1,7 @@
 // Document 01, "Execution": an amount shared by size, and an amount given by arrival, over the first slots of arrays of 65.
 ghost use mathlib.Core.Path.{_≡_};
 ghost use Prim.Native.Nat.{_<_, _≤_, min};
-ghost use lib.ListN.{length, take};
+ghost use lib.ListN.{length, take, drop};
 ghost use Rattle.rules.specs.Basics.{sum};
 ghost use Rattle.rules.specs.Share.{parts, gots, lefts, shares, inTurn};
 ghost use Rattle.share.specs.Loops.{maxFrom};
@@ -33,7 +33,8 @@ fn lesser(a: u32, b: u32) -> u32
 // "orders by arrival": each as much as is left.
 pub fn in_turn(sizes: &[u32; 65], n: usize, amount: u32, out: &mut [u32; 65])
     requires { ⌜ (length (now sizes) ≡ 65) × (length (now out) ≡ 65) ⌝ }
-    ensures { λ _. ⌜ (length (now (out .exit)) ≡ 65) × (take (min n 65) (now (out .exit)) ≡ inTurn amount (take (min n 65) (now (sizes .entry)))) ⌝ }
+    ensures { λ _. ⌜ (length (now (out .exit)) ≡ 65) × (take (min n 65) (now (out .exit)) ≡ inTurn amount (take (min n 65) (now (sizes .entry))))
+        × (drop (min n 65) (now (out .exit)) ≡ drop (min n 65) (now (out .entry))) ⌝ }
 {
     let m = shown(n);
     let mut rest = amount;
@@ -80,7 +81,8 @@ fn rounded(
 )
     requires { ⌜ (n ≤ 65) × (length (now sizes) ≡ 65) × (length (now out) ≡ 65) × (length (now rest) ≡ 65) × (0 < all) × (all ≡ sum (take n (now sizes))) ⌝ }
     ensures { λ _. ⌜ (length (now (out .exit)) ≡ 65) × (length (now (rest .exit)) ≡ 65)
-        × ((take n (now (out .exit)) ≡ gots (parts amount all (take n (now (sizes .entry))))) × (take n (now (rest .exit)) ≡ lefts (parts amount all (take n (now (sizes .entry)))))) ⌝ }
+        × ((take n (now (out .exit)) ≡ gots (parts amount all (take n (now (sizes .entry))))) × (take n (now (rest .exit)) ≡ lefts (parts amount all (take n (now (sizes .entry))))))
+        × (drop n (now (out .exit)) ≡ drop n (now (out .entry))) ⌝ }
 {
     let mut i = 0;
     while i < n {
@@ -113,7 +115,8 @@ fn first_max(rest: &[u64; 65], n: usize) -> usize
 // Sizes of some units: rounded down, then "leftover units go one each to the largest remainders".
 fn by_size(sizes: &[u32; 65], n: usize, amount: u32, all: u64, out: &mut [u32; 65])
     requires { ⌜ (n ≤ 65) × (length (now sizes) ≡ 65) × (length (now out) ≡ 65) × (0 < all) × (all ≡ sum (take n (now sizes))) ⌝ }
-    ensures { λ _. ⌜ (length (now (out .exit)) ≡ 65) × (take n (now (out .exit)) ≡ shares amount (take n (now (sizes .entry)))) ⌝ }
+    ensures { λ _. ⌜ (length (now (out .exit)) ≡ 65) × (take n (now (out .exit)) ≡ shares amount (take n (now (sizes .entry))))
+        × (drop n (now (out .exit)) ≡ drop n (now (out .entry))) ⌝ }
 {
     let mut rest = [0u64; 65];
     rounded(sizes, n, amount, all, out, &mut rest);
@@ -130,16 +133,20 @@ fn by_size(sizes: &[u32; 65], n: usize, amount: u32, all: u64, out: &mut [u32; 6
 // Sizes of 0 only: all units are left over, and the first slot has the largest remainder.
 fn to_first(sizes: &[u32; 65], n: usize, amount: u32, out: &mut [u32; 65])
     requires { ⌜ (n ≤ 65) × (length (now sizes) ≡ 65) × (length (now out) ≡ 65) × (sum (take n (now sizes)) ≡ 0) ⌝ }
-    ensures { λ _. ⌜ (length (now (out .exit)) ≡ 65) × (take n (now (out .exit)) ≡ shares amount (take n (now (sizes .entry)))) ⌝ }
+    ensures { λ _. ⌜ (length (now (out .exit)) ≡ 65) × (take n (now (out .exit)) ≡ shares amount (take n (now (sizes .entry))))
+        × (drop n (now (out .exit)) ≡ drop n (now (out .entry))) ⌝ }
 {
     in_turn(sizes, n, amount, out);
-    out[0] = amount;
+    if 0 < n {
+        out[0] = amount;
+    }
 }
 
 // "shared by size".
 pub fn share(sizes: &[u32; 65], n: usize, amount: u32, out: &mut [u32; 65])
     requires { ⌜ (length (now sizes) ≡ 65) × (length (now out) ≡ 65) ⌝ }
-    ensures { λ _. ⌜ (length (now (out .exit)) ≡ 65) × (take (min n 65) (now (out .exit)) ≡ shares amount (take (min n 65) (now (sizes .entry)))) ⌝ }
+    ensures { λ _. ⌜ (length (now (out .exit)) ≡ 65) × (take (min n 65) (now (out .exit)) ≡ shares amount (take (min n 65) (now (sizes .entry))))
+        × (drop (min n 65) (now (out .exit)) ≡ drop (min n 65) (now (out .entry))) ⌝ }
 {
     let m = shown(n);
     let all = total(sizes, m);

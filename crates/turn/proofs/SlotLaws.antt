@@ -1,11 +1,11 @@
 -- One step of each loop over the slots, and its end.
-use mathlib.Core.Path.{_≡_}
+use mathlib.Core.Path.{_≡_, ap, sym, _∙_}
 use mathlib.Core.Bool.{_&&_, true, false}
 use mathlib.Core.List.{List, [], _∷_, _++_}
 use Prim.Native.Nat.{ℕ, _+_, _≤_, _<_}
 use native.Mathlib.Omega.{arith}
 use lib.ListN.{length, take, drop, getD, set}
-use lib.Seq.{take-set-lt, drop-set-lt}
+use lib.Seq.{take-set-lt, drop-set-lt, drop-drop}
 use lib.Dec.{eqb, ltb}
 use Rattle.rules.specs.Basics.{sum, pick}
 use Rattle.share.proofs.LoopLaws.{row, row-end, push}
@@ -75,3 +75,7 @@ module _ (n i : ℕ) (h : n ≤ i) where
 
 pub under-step : (n i m : ℕ) (ps : List ℕ) → n ≤ length ps → i < n → getD ps i 0 < m → (Under m (drop i (take n ps)) → Under m (take n ps)) → Under m (drop (i + 1) (take n ps)) → Under m (take n ps)
 under-step n i m ps h j p f s = f (rw (row n i ps h j) (p, s))
+
+-- what stays from place w on stays from a later one on
+pub stays : (w k : ℕ) (l l₀ : List ℕ) → drop w l ≡ drop w l₀ → drop (w + k) l ≡ drop (w + k) l₀
+stays w k l l₀ e = sym (drop-drop k w l) ∙ ap (λ (x : List ℕ). drop k x) e ∙ drop-drop k w l₀

@@ -3,7 +3,7 @@ ghost use mathlib.Core.Path.{_≡_};
 ghost use mathlib.Core.List.{_++_};
 ghost use mathlib.Core.Bool.{_&&_, not};
 ghost use Prim.Native.Nat.{_+_, _*_, _<_, _≤_, min};
-ghost use lib.ListN.{length, take};
+ghost use lib.ListN.{length, take, drop};
 ghost use lib.Dec.{eqb, ltb, leb};
 ghost use Rattle.rules.specs.Basics.{sum, pick};
 ghost use Rattle.rules.specs.Prices.{mostHeld};
@@ -107,7 +107,8 @@ fn gather(places: &[u32; 65], units: &[u32; 65], n: usize, k: u64, out: &mut [u3
 // The new numbers for those at place k.
 fn put(places: &[u32; 65], n: usize, k: u64, new: &[u32; 65], gave: &mut [u32; 65])
     requires { ⌜ (n ≤ 65) × (length (now places) ≡ 65) × (length (now new) ≡ 65) × (length (now gave) ≡ 65) ⌝ }
-    ensures { λ _. ⌜ (length (now (gave .exit)) ≡ 65) × (take n (now (gave .exit)) ≡ over k (take n (now (places .entry))) (take n (now (new .entry))) (take n (now (gave .entry)))) ⌝ }
+    ensures { λ _. ⌜ (length (now (gave .exit)) ≡ 65) × (take n (now (gave .exit)) ≡ over k (take n (now (places .entry))) (take n (now (new .entry))) (take n (now (gave .entry))))
+        × (drop n (now (gave .exit)) ≡ drop n (now (gave .entry))) ⌝ }
 {
     let mut i = 0;
     while i < n {
@@ -143,7 +144,8 @@ fn dealt(sizes: &[u32; 65], n: usize, k: u64, amount: u32, out: &mut [u32; 65])
 fn part(places: &[u32; 65], units: &[u32; 65], n: usize, k: u64, amount: u32, gave: &mut [u32; 65])
     requires { ⌜ (n ≤ 65) × (length (now places) ≡ 65) × (length (now units) ≡ 65) × (length (now gave) ≡ 65) ⌝ }
     ensures { λ _. ⌜ (length (now (gave .exit)) ≡ 65) × (take n (now (gave .exit)) ≡ over k (take n (now (places .entry)))
-        (deal k amount (sizesOf k (take n (now (places .entry))) (take n (now (units .entry))))) (take n (now (gave .entry)))) ⌝ }
+        (deal k amount (sizesOf k (take n (now (places .entry))) (take n (now (units .entry))))) (take n (now (gave .entry))))
+        × (drop n (now (gave .exit)) ≡ drop n (now (gave .entry))) ⌝ }
 {
     let mut sizes = [0u32; 65];
     let mut out = [0u32; 65];
@@ -162,7 +164,8 @@ pub fn turn<'a>(
 )
     requires { ⌜ (length (now places) ≡ 65) × (length (now units) ≡ 65) × (length (now gave) ≡ 65) ⌝ }
     ensures { λ _. ⌜ (length (now (gave .exit)) ≡ 65)
-        × IsTurn amount (take (min n 65) (now (places .entry))) (take (min n 65) (now (units .entry))) (take (min n 65) (now (gave .exit))) ⌝ }
+        × IsTurn amount (take (min n 65) (now (places .entry))) (take (min n 65) (now (units .entry))) (take (min n 65) (now (gave .exit)))
+        × (drop (min n 65) (now (gave .exit)) ≡ drop (min n 65) (now (gave .entry))) ⌝ }
 {
     let m = share::shown(n);
     share::in_turn(units, m, 0, gave);
@@ -211,7 +214,8 @@ fn mark(
         × (from + length (slotsAt k 0 (take n (now places)) (take n (now gave))) ≤ 65) ⌝ }
     ensures { λ r. ⌜ (length (now (slots .exit)) ≡ 65)
         × (r ≡ from + length (slotsAt k 0 (take n (now (places .entry))) (take n (now (gave .entry)))))
-        × (take r (now (slots .exit)) ≡ take from (now (slots .entry)) ++ slotsAt k 0 (take n (now (places .entry))) (take n (now (gave .entry)))) ⌝ }
+        × (take r (now (slots .exit)) ≡ take from (now (slots .entry)) ++ slotsAt k 0 (take n (now (places .entry))) (take n (now (gave .entry))))
+        × (drop r (now (slots .exit)) ≡ drop r (now (slots .entry))) ⌝ }
 {
     let mut w = from;
     let mut i = 0;
@@ -236,7 +240,8 @@ pub fn sequence<'a>(
 ) -> usize
     requires { ⌜ (length (now places) ≡ 65) × (length (now gave) ≡ 65) × (length (now slots) ≡ 65) ⌝ }
     ensures { λ r. ⌜ (length (now (slots .exit)) ≡ 65) × (r ≤ 65) × Under (min n 65) (take r (now (slots .exit)))
-        × IsSequence (take (min n 65) (now (places .entry))) (take (min n 65) (now (gave .entry))) (take r (now (slots .exit))) ⌝ }
+        × IsSequence (take (min n 65) (now (places .entry))) (take (min n 65) (now (gave .entry))) (take r (now (slots .exit)))
+        × (drop r (now (slots .exit)) ≡ drop r (now (slots .entry))) ⌝ }
 {
     let m = share::shown(n);
     let mut w = 0;
@@ -435,7 +440,8 @@ pub fn interest<'a>(
         × (length (now places) ≡ 65) × (length (now sizes) ≡ 65) ⌝ }
     ensures { λ r. ⌜ (r ≡ min n 64 + 1) × (length (now (places .exit)) ≡ 65) × (length (now (sizes .exit)) ≡ 65)
         × IsOpen (modeOf mode) (auctionOf auction) (derivedOf derived) buy limit (min n 64) (now (prices .entry)) (now (units .entry)) (now (buys .entry)) (now (customers .entry)) (now (stages .entry))
-        (take r (now (places .exit))) (take r (now (sizes .exit))) ⌝ }
+        (take r (now (places .exit))) (take r (now (sizes .exit)))
+        × (drop r (now (places .exit)) ≡ drop r (now (places .entry))) × (drop r (now (sizes .exit)) ≡ drop r (now (sizes .entry))) ⌝ }
 {
     let m = listed(n);
     let last = key(buy, limit as u64);

@@ -1,7 +1,8 @@
-use mathlib.Core.Path.{_≡_, _∙_}
+use mathlib.Core.Path.{_≡_, refl, _∙_}
 use Prim.Native.Nat.{_+_, _≤_, _<_}
 use native.Mathlib.Omega.{arith}
-use lib.ListN.{length, take}
+use lib.ListN.{length, take, drop}
+use lib.Seq.{drop-set-lt}
 use borrow.Author.Needs.{needs}
 use Rattle.rules.specs.Basics.{sum}
 use Rattle.rules.specs.Share.{gots, leftover, shares}
@@ -13,6 +14,7 @@ use Rattle.share.proofs.by_size.Tie as tie
 abbrev Inv-loop : tie.InvT-loop
 Inv-loop sizes n amount all out₀ rest₀ left₀ out rest left = (n ≤ 65) × (0 < n) × (length out ≡ 65) × (length rest ≡ 65) × (sum (take n out) + left ≡ amount)
     × (gots (leftover left (paired (take n out) (take n rest))) ≡ shares amount (take n sizes))
+    × (drop n out ≡ drop n out₀)
 
 abbrev μ-loop : tie.MeasureT-loop
 μ-loop sizes n amount all out₀ rest₀ left₀ out rest left = left
@@ -45,6 +47,7 @@ loop-holds c =
       omega (arith, down c, c .total .ensures),
       start-is (S .args .amount) (S .args .all) (c .total .result) (take n (S .args .sizes .now)) (take n (r .last .1 .1 .1 .1 .0)) (take n (r .last .1 .1 .1 .1 .1 .0)) (S .pre .4)
           (r .ensures .2 .0) (r .ensures .2 .1) (c .total .ensures),
+      refl,
     )
 
 first-max-requires : tie.Need-first-max-requires Inv-loop μ-loop
@@ -103,6 +106,7 @@ loop-again c =
       search needs,
       omega (arith, share-sum n i (L .out) o j, L .inv .4, p),
       share-step n i (L .left) (L .out) (L .rest) o r j (c .before .first-max .ensures) p ∙ L .inv .5,
+      drop-set-lt n (L .out) i _ j ∙ L .inv .6,
     )
 
 returns : tie.Need-returns Inv-loop μ-loop
@@ -111,7 +115,7 @@ returns c =
     let n = c .before .before .before .before .before .before .before .args .n in
     let o : n ≤ length (L .out) = omega (arith, L .inv .0, L .inv .2) in
     let r : n ≤ length (L .rest) = omega (arith, L .inv .0, L .inv .3) in
-    (L .inv .2, share-end n (L .left) (L .out) (L .rest) o r (omega arith) ∙ L .inv .5)
+    (L .inv .2, share-end n (L .left) (L .out) (L .rest) o r (omega arith) ∙ L .inv .5, L .inv .6 ∙ c .before .before .before .before .rounded .ensures .3)
 
 pub by-size-spec : {M : Type 1} → statement M
 by-size-spec =

@@ -3,6 +3,7 @@ use mathlib.Core.List.{_++_}
 use Prim.Native.Nat.{_-_, _≤_}
 use native.Mathlib.Omega.{arith}
 use lib.ListN.{length, take, drop}
+use lib.Seq.{drop-set-lt}
 use borrow.Author.Needs.{needs}
 use Rattle.rules.specs.Share.{inTurn}
 use Rattle.share.proofs.LoopLaws.{done, turn-step, turn-end}
@@ -11,6 +12,7 @@ use Rattle.share.proofs.in_turn.Tie as tie
 
 abbrev Inv-loop : tie.InvT-loop
 Inv-loop sizes n amount out₀ m rest₀ i₀ out rest i = (i ≤ m) × (m ≤ 65) × (length sizes ≡ 65) × (length out ≡ 65) × (take i out ++ inTurn rest (drop i (take m sizes)) ≡ inTurn rest₀ (take m sizes))
+    × (drop m out ≡ drop m out₀)
 
 abbrev μ-loop : tie.MeasureT-loop
 μ-loop sizes n amount out₀ m rest₀ i₀ out rest i = m - i
@@ -19,7 +21,7 @@ shown-requires : tie.Need-shown-requires Inv-loop μ-loop
 shown-requires c κs = search needs
 
 loop-holds : tie.Need-loop-holds Inv-loop μ-loop
-loop-holds c = (search needs, search needs, search needs, search needs, refl)
+loop-holds c = (search needs, search needs, search needs, search needs, refl, refl)
 
 mul-lesser : tie.Need-mul-lesser Inv-loop μ-loop
 mul-lesser c = search needs
@@ -55,6 +57,7 @@ loop-again c =
       search needs,
       rw (c .lesser .ensures)
           (turn-step (L .before .shown .result) (L .loop .i) ss (omega arith) (omega arith) (L .loop .rest) (L .loop .out) (omega arith) ∙ L .loop .inv .4),
+      drop-set-lt (L .before .shown .result) (L .loop .out) (L .loop .i) (c .lesser .result) (omega arith) ∙ L .loop .inv .5,
     )
 
 returns : tie.Need-returns Inv-loop μ-loop
@@ -62,7 +65,8 @@ returns c =
     let L = c .before .loop in
     let m = c .before .before .shown .result in
     let ss = c .before .before .before .args .sizes .now in
-    (L .inv .3, rw (← c .before .before .shown .ensures) (sym (done m (L .i) (L .out) _ (omega arith) (omega arith) (turn-end m (L .i) (omega arith) ss (L .rest))) ∙ L .inv .4))
+    let e = c .before .before .shown .ensures in
+    (L .inv .3, rw (← e) (sym (done m (L .i) (L .out) _ (omega arith) (omega arith) (turn-end m (L .i) (omega arith) ss (L .rest))) ∙ L .inv .4), rw (← e) (L .inv .5))
 
 pub in-turn-spec : {M : Type 1} → statement M
 in-turn-spec =

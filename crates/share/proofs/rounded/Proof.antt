@@ -3,6 +3,7 @@ use mathlib.Core.List.{_++_}
 use Prim.Native.Nat.{_-_, _≤_, _<_}
 use native.Mathlib.Omega.{arith}
 use lib.ListN.{length, take, drop}
+use lib.Seq.{drop-set-lt}
 use borrow.Author.Needs.{needs}
 use Rattle.rules.specs.Basics.{sum}
 use Rattle.rules.specs.Share.{parts, gots, lefts}
@@ -15,12 +16,13 @@ abbrev Inv-loop : tie.InvT-loop
 Inv-loop sizes n amount all out₀ rest₀ i₀ out rest i = (i ≤ n) × (n ≤ 65) × (length sizes ≡ 65) × (length out ≡ 65) × (length rest ≡ 65) × (0 < all) × (all ≡ sum (take n sizes))
     × (take i out ++ gots (parts amount all (drop i (take n sizes))) ≡ gots (parts amount all (take n sizes)))
     × (take i rest ++ lefts (parts amount all (drop i (take n sizes))) ≡ lefts (parts amount all (take n sizes)))
+    × (drop n out ≡ drop n out₀)
 
 abbrev μ-loop : tie.MeasureT-loop
 μ-loop sizes n amount all out₀ rest₀ i₀ out rest i = n - i
 
 loop-holds : tie.Need-loop-holds Inv-loop μ-loop
-loop-holds c = (search needs, search needs, search needs, search needs, search needs, search needs, search needs, refl, refl)
+loop-holds c = (search needs, search needs, search needs, search needs, search needs, search needs, search needs, refl, refl, refl)
 
 mul-wide : tie.Need-mul-wide Inv-loop μ-loop
 mul-wide c = search needs
@@ -79,6 +81,7 @@ loop-again c =
       L .loop .inv .6,
       rw e (gots-step (a .n) (L .loop .i) (a .sizes .now) (omega arith) (omega arith) (a .amount) (a .all) (L .loop .out) (omega arith) ∙ L .loop .inv .7),
       rw e (lefts-step (a .n) (L .loop .i) (a .sizes .now) (omega arith) (omega arith) (a .amount) (a .all) (L .loop .rest) (omega arith) ∙ L .loop .inv .8),
+      drop-set-lt (a .n) (L .loop .out) (L .loop .i) _ (omega arith) ∙ L .loop .inv .9,
     )
 
 returns : tie.Need-returns Inv-loop μ-loop
@@ -91,6 +94,7 @@ returns c =
         sym (done (a .n) (L .i) (L .out) _ (omega arith) (omega arith) (gots-end (a .n) (L .i) (omega arith) (a .sizes .now) (a .amount) (a .all))) ∙ L .inv .7,
         sym (done (a .n) (L .i) (L .rest) _ (omega arith) (omega arith) (lefts-end (a .n) (L .i) (omega arith) (a .sizes .now) (a .amount) (a .all))) ∙ L .inv .8,
       ),
+      L .inv .9,
     )
 
 pub rounded-spec : {M : Type 1} → statement M

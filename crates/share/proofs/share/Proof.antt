@@ -15,10 +15,10 @@ to-first-requires : tie.Need-to-first-requires
 to-first-requires c κs = search needs
 
 returns : tie.Need-returns
-returns c = (c .by-size .ensures .0, rw (← c .before .before .before .before .shown .ensures) (c .by-size .ensures .1))
+returns c = rw (← c .before .before .before .before .shown .ensures) (c .by-size .ensures)
 
 returns-2 : tie.Need-returns-2
-returns-2 c = (c .to-first .ensures .0, rw (← c .before .before .before .before .shown .ensures) (c .to-first .ensures .1))
+returns-2 c = rw (← c .before .before .before .before .shown .ensures) (c .to-first .ensures)
 
 pub share-spec : {M : Type 1} → statement M
 share-spec =

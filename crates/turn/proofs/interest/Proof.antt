@@ -1,7 +1,8 @@
-use mathlib.Core.Path.{_≡_, refl, ap}
+use mathlib.Core.Path.{_≡_, refl, ap, _∙_}
 use Prim.Native.Nat.{ℕ, _+_, _-_, _≤_, _<_}
 use native.Mathlib.Omega.{arith}
-use lib.ListN.{length, set}
+use lib.ListN.{length, drop, set}
+use lib.Seq.{drop-set-lt}
 use borrow.Author.Needs.{needs}
 use Rattle.rules.specs.Turn.{sizes, keyOf}
 use Rattle.rules.specs.Book.{Entry}
@@ -16,6 +17,7 @@ Inv-loop mode buy limit prices units buys customers stages n places₀ sizes₀ 
     × ((length prices ≡ 64) × (length units ≡ 64) × (length buys ≡ 64) × (length customers ≡ 64) × (length stages ≡ 64))
     × (length places ≡ 65) × (length sizes ≡ 65) × (last ≡ keyOf buy limit)
     × ((f : ℕ → Entry) (o : Entry) → Shows f prices units buys customers stages → o .buy ≡ buy → Written (modeOf mode) last f o m i places sizes places₀ sizes₀)
+    × (drop (m + 1) places ≡ drop (m + 1) places₀) × (drop (m + 1) sizes ≡ drop (m + 1) sizes₀)
 
 abbrev μ-loop : tie.MeasureT-loop
 μ-loop mode buy limit prices units buys customers stages n places₀ sizes₀ m last i₀ places sizes i = m - i
@@ -42,7 +44,7 @@ element-write-sizes : tie.Need-element-write-sizes Inv-loop μ-loop
 element-write-sizes c = search needs
 
 loop-holds : tie.Need-loop-holds Inv-loop μ-loop
-loop-holds c = (omega arith, omega arith, search needs, search needs, search needs, search needs, λ f o s e. (refl, refl))
+loop-holds c = (omega arith, omega arith, search needs, search needs, search needs, search needs, λ f o s e. (refl, refl), refl, refl)
 
 mul-entry-spot : tie.Need-mul-entry-spot Inv-loop μ-loop
 mul-entry-spot c = search needs
@@ -121,6 +123,8 @@ loop-again c =
           (set (a .sizes .now) 0 (L .before .within .result)) (v .6 f o s e) (x .result) (c .entry-units .result) h (omega (arith, v .1, v .3)) (omega (arith, v .1, v .4))
           (spot-is (modeOf (a .mode)) f o (a .prices .now) (a .units .now) (a .buys .now) (a .customers .now) (a .stages .now) s (a .buy) e i (x .result) (x .ensures))
           (units-are (modeOf (a .mode)) f o (a .prices .now) (a .units .now) (a .buys .now) (a .customers .now) (a .stages .now) s (a .buy) e i (c .entry-units .result) k (c .entry-units .ensures)),
+      drop-set-lt (m + 1) (L .loop .places) (i + 1) (x .result) (omega (arith, h)) ∙ v .7,
+      drop-set-lt (m + 1) (L .loop .sizes) (i + 1) (c .entry-units .result) (omega (arith, h)) ∙ v .8,
     )
 
 add-result : tie.Need-add-result Inv-loop μ-loop
@@ -144,6 +148,8 @@ returns c =
           (legs-spot (modeOf (a .mode)) (auctionOf (a .auction)) (derivedOf (a .derived)) o (a .buy) e (a .places .now) (omega arith) (x .result) (L .before .before .before .legs-rank .result)
           (L .before .before .before .legs-rank .ensures .0) (x .ensures))
           (legs-units (modeOf (a .mode)) (auctionOf (a .auction)) (derivedOf (a .derived)) o (a .buy) e (a .sizes .now) (omega arith) (y .result) (k .result) (y .ensures))),
+      v .7 ∙ drop-set-lt (m .result + 1) (a .places .now) 0 (x .result) (omega arith),
+      v .8 ∙ drop-set-lt (m .result + 1) (a .sizes .now) 0 (y .result) (omega arith),
     )
 
 pub interest-spec : {M : Type 1} → statement M

@@ -3,10 +3,11 @@ use mathlib.Core.List.{List, _∷_, _++_, append-nil}
 use Prim.Native.Nat.{ℕ, _+_, _-_, _≤_, _<_}
 use native.Mathlib.Omega.{arith}
 use lib.ListN.{length, take, drop}
+use lib.Seq.{drop-set-lt}
 use borrow.Author.Needs.{needs}
 use Rattle.turn.specs.Slots.{slotsAt}
 use Rattle.share.proofs.LoopLaws.{push}
-use Rattle.turn.proofs.SlotLaws.{mark-yes, mark-no, mark-end}
+use Rattle.turn.proofs.SlotLaws.{mark-yes, mark-no, mark-end, stays}
 use Rattle.types.specs.View.{from}
 use Rattle.turn.proofs.mark.Statement.{statement}
 use Rattle.turn.proofs.mark.Tie as tie
@@ -16,12 +17,13 @@ Inv-loop places gave n k from slots₀ w₀ i₀ slots w i = (i ≤ n) × (n ≤
     × (from + length (slotsAt k 0 (take n places) (take n gave)) ≤ 65)
     × (w + length (slotsAt k i (drop i (take n places)) (drop i (take n gave))) ≡ from + length (slotsAt k 0 (take n places) (take n gave)))
     × (take w slots ++ slotsAt k i (drop i (take n places)) (drop i (take n gave)) ≡ take from slots₀ ++ slotsAt k 0 (take n places) (take n gave))
+    × (drop w slots ≡ drop w slots₀)
 
 abbrev μ-loop : tie.MeasureT-loop
 μ-loop places gave n k from slots₀ w₀ i₀ slots w i = n - i
 
 loop-holds : tie.Need-loop-holds Inv-loop μ-loop
-loop-holds c = (search needs, search needs, search needs, search needs, search needs, search needs, refl, refl)
+loop-holds c = (search needs, search needs, search needs, search needs, search needs, search needs, refl, refl, refl)
 
 mul-gives : tie.Need-mul-gives Inv-loop μ-loop
 mul-gives c = search needs
@@ -84,6 +86,7 @@ loop-again c =
       L .inv .5,
       omega (arith, ap (λ (l : List ℕ). length l) h, L .inv .6),
       push (L .w) (L .slots) l (L .i) (omega (arith, room c, L .inv .4)) ∙ ap (λ (l : List ℕ). take (L .w) (L .slots) ++ l) (sym h) ∙ L .inv .7,
+      drop-set-lt (L .w + 1) (L .slots) (L .w) (L .i) (omega arith) ∙ stays (L .w) 1 (L .slots) (c .before .before .before .before .before .before .args .slots .now) (L .inv .8),
     )
 
 add-i-2 : tie.Need-add-i-2 Inv-loop μ-loop
@@ -105,6 +108,7 @@ loop-again-2 c =
       L .inv .5,
       omega (arith, ap (λ (l : List ℕ). length l) h, L .inv .6),
       ap (λ (l : List ℕ). take (L .w) (L .slots) ++ l) (sym h) ∙ L .inv .7,
+      L .inv .8,
     )
 
 returns : tie.Need-returns Inv-loop μ-loop
@@ -115,6 +119,7 @@ returns c =
       L .inv .4,
       omega (arith, ap (λ (l : List ℕ). length l) h, L .inv .6),
       sym (append-nil (take (L .w) (L .slots))) ∙ ap (λ (l : List ℕ). take (L .w) (L .slots) ++ l) (sym h) ∙ L .inv .7,
+      L .inv .8,
     )
 
 pub mark-spec : {M : Type 1} → statement M

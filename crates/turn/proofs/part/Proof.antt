@@ -21,6 +21,7 @@ returns c =
       c .put .ensures .0,
       part-is (a .k) (a .amount) (take (a .n) (a .places .now)) (take (a .n) (a .units .now)) (take (a .n) (a .gave .now)) (take (a .n) (g .last .1 .1 .1 .1 .0))
           (take (a .n) (d .last .1 .1 .1 .1 .0)) (take (a .n) (c .put .last .1 .1 .1 .1 .0)) (g .ensures .1) (d .ensures .1) (c .put .ensures .1),
+      c .put .ensures .2,
     )
 
 pub part-spec : {M : Type 1} → statement M

@@ -1,10 +1,11 @@
-use mathlib.Core.Path.{_≡_}
+use mathlib.Core.Path.{_≡_, refl, _∙_}
 use Prim.Native.Nat.{_+_, _-_, _≤_, _<_}
 use native.Mathlib.Omega.{arith}
-use lib.ListN.{length, take}
+use lib.ListN.{length, take, drop}
 use lib.Seq.{length-take-le}
 use borrow.Author.Needs.{needs}
 use Rattle.turn.specs.Slots.{Under, slotsAt}
+use Rattle.turn.proofs.SlotLaws.{stays}
 use Rattle.turn.proofs.NextLaws.{least-low}
 use Rattle.turn.proofs.SequenceLaws.{many, many-most, many-step, under-append, slots-under, Told, told-start, told-step, told-none, told-end}
 use Rattle.turn.proofs.sequence.Statement.{statement}
@@ -12,7 +13,7 @@ use Rattle.turn.proofs.sequence.Tie as tie
 
 abbrev Inv-loop : tie.InvT-loop
 Inv-loop places gave n slots₀ m w₀ b₀ slots w b = (m ≤ 65) × (length places ≡ 65) × (length gave ≡ 65) × (length slots ≡ 65) × (b ≤ 4294967296) × (w + many b (take m places) (take m gave) ≤ 65)
-    × (0 < b → Under 4294967296 (take m places)) × Under m (take w slots) × Told b (take m places) (take m gave) (take w slots)
+    × (0 < b → Under 4294967296 (take m places)) × Under m (take w slots) × Told b (take m places) (take m gave) (take w slots) × (drop w slots ≡ drop w slots₀)
 
 abbrev μ-loop : tie.MeasureT-loop
 μ-loop places gave n slots₀ m w₀ b₀ slots w b = 4294967296 - b
@@ -36,6 +37,7 @@ loop-holds c =
       λ h. absurd (omega arith),
       tt,
       told-start ps gs,
+      refl,
     )
 
 least-requires : tie.Need-least-requires Inv-loop μ-loop
@@ -53,6 +55,7 @@ returns c =
       rw (← m .ensures)
           (told-none (L .b) (k .result) (take (m .result) (S .args .places .now)) (take (m .result) (S .args .gave .now)) (take (L .w) (L .slots)) (k .ensures .0) (c .if1 .taken) (k .ensures .1)
           (L .inv .8)),
+      L .inv .9,
     )
 
 low : (c : tie.After-mark-arg Inv-loop μ-loop) → c .before .before .before .before .loop .b ≤ c .before .before .least .result
@@ -103,6 +106,7 @@ loop-again c =
       λ h. k .ensures .1,
       rw (e .2) (under-append m (take (L .loop .w) (L .loop .slots)) (slotsAt (k .result) 0 ps gs) (v .7) (slots-under m (k .result) 0 ps gs (omega arith))),
       told-step (L .loop .b) (k .result) ps gs (take (L .loop .w) (L .loop .slots)) (take (c .mark .result) (c .mark .last .1 .1 .1 .1 .1 .0)) (k .ensures .0) (c .before .before .if1 .left) (v .8) (e .2),
+      e .3 ∙ rw (e .1) (stays (L .loop .w) (length (slotsAt (k .result) 0 ps gs)) (L .loop .slots) (L .before .before .args .slots .now) (v .9)),
     )
 
 returns-2 : tie.Need-returns-2 Inv-loop μ-loop
@@ -115,6 +119,7 @@ returns-2 c =
       rw (← m .ensures) (L .inv .7),
       rw (← m .ensures)
           (told-end (L .b) (take (m .result) (S .args .places .now)) (take (m .result) (S .args .gave .now)) (take (L .w) (L .slots)) (omega arith) (L .inv .6 (omega arith)) (L .inv .8)),
+      L .inv .9,
     )
 
 pub sequence-spec : {M : Type 1} → statement M

@@ -1,8 +1,8 @@
-use mathlib.Core.Path.{_≡_}
+use mathlib.Core.Path.{_≡_, refl, _∙_}
 use mathlib.Core.List.{List}
 use Prim.Native.Nat.{_-_, _≤_, min}
 use native.Mathlib.Omega.{arith}
-use lib.ListN.{length, take}
+use lib.ListN.{length, take, drop}
 use borrow.Author.Needs.{needs}
 use Rattle.rules.specs.Turn.{Offer, sizes}
 use Rattle.turn.specs.Slots.{spots}
@@ -14,6 +14,7 @@ use Rattle.turn.proofs.turn.Tie as tie
 abbrev Inv-loop : tie.InvT-loop
 Inv-loop places units n amount gave₀ m rest₀ b₀ gave rest b = (m ≤ 65) × (length places ≡ 65) × (length units ≡ 65) × (length gave ≡ 65) × (b ≤ 4294967296) × (rest ≤ amount)
     × ((es : List Offer) → spots es ≡ take m places → sizes es ≡ take m units → Going amount b rest es (take m gave))
+    × (drop m gave ≡ drop m gave₀)
 
 abbrev μ-loop : tie.MeasureT-loop
 μ-loop places units n amount gave₀ m rest₀ b₀ gave rest b = 4294967297 - b
@@ -24,19 +25,26 @@ shown-requires c κs = search needs
 in-turn-requires : tie.Need-in-turn-requires Inv-loop μ-loop
 in-turn-requires c κs = search needs
 
+clamped : (c : tie.After-in-turn Inv-loop μ-loop) → min (c .before .before .shown .result) 65 ≡ c .before .before .shown .result
+clamped c = omega (arith, c .before .before .shown .ensures)
+
 loop-holds : tie.Need-loop-holds Inv-loop μ-loop
 loop-holds c =
     let S = c .before .before .before in
-    let m = c .before .before .shown .result in
-    let e : min m 65 ≡ m = omega (arith, c .before .before .shown .ensures) in (
+    let m = c .before .before .shown .result in (
       omega (arith, c .before .before .shown .ensures),
       S .pre .0,
       S .pre .1,
       c .in-turn .ensures .0,
       omega arith,
       omega arith,
-      λ es p q. grant-start (S .args .amount) (take m (S .args .units .now)) (take m (c .in-turn .last .1 .1 .1 .0)) es q (rw e at (c .in-turn .ensures .1)),
+      λ es p q. grant-start (S .args .amount) (take m (S .args .units .now)) (take m (c .in-turn .last .1 .1 .1 .0)) es q (rw (clamped c) at (c .in-turn .ensures .1)),
+      refl,
     )
+
+begun : (c : tie.After-in-turn Inv-loop μ-loop)
+    → drop (c .before .before .shown .result) (c .in-turn .last .1 .1 .1 .0) ≡ drop (c .before .before .shown .result) (c .before .before .before .args .gave .now)
+begun c = rw (clamped c) at (c .in-turn .ensures .2)
 
 least-requires : tie.Need-least-requires Inv-loop μ-loop
 least-requires c κs = search needs
@@ -52,6 +60,7 @@ returns c =
       rw (← m .ensures)
           (λ es p q. grant-none (a .amount) (L .b) (L .rest) (k .result) (take (m .result) (a .places .now)) (take (m .result) (a .units .now)) (take (m .result) (L .gave)) es p q (k .ensures .0)
           (L .inv .6 es p q) (c .if1 .taken) (k .ensures .1)),
+      rw (← m .ensures) (L .inv .7 ∙ begun S),
     )
 
 total-at-requires : tie.Need-total-at-requires Inv-loop μ-loop
@@ -99,6 +108,7 @@ loop-again c =
       omega arith,
       λ es p q. grant-all (a .amount) (L .loop .b) (L .loop .rest) (k .result) (take m (a .places .now)) (take m (a .units .now)) (take m (L .loop .gave)) es p q (k .ensures .0) (v .6 es p q)
           (c .before .before .before .before .if1 .left) (t .result) (take m (c .put .last .1 .1 .1 .1 .0)) (t .ensures) (c .before .before .if2 .taken) (c .put .ensures .1),
+      c .put .ensures .2 ∙ v .7,
     )
 
 part-requires : tie.Need-part-requires Inv-loop μ-loop
@@ -127,6 +137,7 @@ loop-again-2 c =
       omega arith,
       λ es p q. grant-part (a .amount) (L .loop .b) (L .loop .rest) (k .result) (take m (a .places .now)) (take m (a .units .now)) (take m (L .loop .gave)) es p q (k .ensures .0) (v .6 es p q)
           (c .before .before .before .before .if1 .left) (t .result) (take m (c .part .last .1 .1 .1 .1 .1 .0)) (t .ensures) (c .before .before .if2 .left) (c .part .ensures .1),
+      c .part .ensures .2 ∙ v .7,
     )
 
 returns-2 : tie.Need-returns-2 Inv-loop μ-loop
@@ -136,6 +147,7 @@ returns-2 c =
     let m = S .shown in (
       L .inv .3,
       rw (← m .ensures) (λ es p q. grant-end (S .before .args .amount) (L .b) (L .rest) es (take (m .result) (L .gave)) (omega arith) (L .inv .6 es p q)),
+      rw (← m .ensures) (L .inv .7 ∙ begun (c .before .before)),
     )
 
 pub turn-spec : {M : Type 1} → statement M
