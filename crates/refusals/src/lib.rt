@@ -1,7 +1,7 @@
 // Document 01, "Where a message is turned back": the rows for messages, read from the top.
 // The conditions of a row are all looked at: an accepted message needs each of them.
 ghost use mathlib.Core.Path.{_≡_};
-ghost use mathlib.Core.Bool.{_||_, _&&_, not};
+ghost use mathlib.Core.Bool.{_||_};
 ghost use lib.Dec.{ltb};
 ghost use Rattle.rules.specs.Basics.{pick, between, firstOf};
 ghost use Rattle.rules.specs.Strategy.{mostTime, mostNumber};

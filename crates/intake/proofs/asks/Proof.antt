@@ -1,0 +1,15 @@
+use borrow.Author.Needs.{needs}
+use Rattle.intake.proofs.asks.Statement.{statement}
+use Rattle.intake.proofs.asks.Tie as tie
+
+is-eligible-requires : tie.Need-is-eligible-requires
+is-eligible-requires c κs = search needs
+
+returns : tie.Need-returns
+returns c = rw (c .before .if1 .taken) (c .is-eligible .ensures)
+
+returns-2 : tie.Need-returns-2
+returns-2 c = search needs
+
+pub asks-spec : {M : Type 1} → statement M
+asks-spec = tie.close (tie.spec is-eligible-requires returns returns-2)

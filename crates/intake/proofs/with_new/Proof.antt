@@ -1,0 +1,18 @@
+use mathlib.Core.Path.{ap, _∙_}
+use Rattle.rules.specs.State.{withBook}
+use Rattle.types.specs.View.{stateOf}
+use borrow.Author.Needs.{needs}
+use Rattle.intake.proofs.with_new.Statement.{statement}
+use Rattle.intake.proofs.with_new.Tie as tie
+
+append-requires : tie.Need-append-requires
+append-requires c κs = search needs
+
+with-book-requires : tie.Need-with-book-requires
+with-book-requires c κs = search needs
+
+returns : tie.Need-returns
+returns c = c .with-book .ensures ∙ ap (withBook (stateOf (c .before .before .args .s))) (c .before .append .ensures)
+
+pub with-new-spec : {M : Type 1} → statement M
+with-new-spec = tie.close (tie.spec append-requires with-book-requires returns)
