@@ -1,11 +1,14 @@
 -- One order's turn: its records as a batch of slots, and what a turn of the rules is for the engine's values.
 use mathlib.Core.Path.{_≡_}
+use mathlib.Core.Bool.{Bool}
 use mathlib.Core.List.{List, map}
 use Prim.Native.Nat.{ℕ, _+_, _-_, min}
 use lib.ListN.{getD, take}
 use Rattle.rules.specs.Basics.{sum}
 use Rattle.rules.specs.Turn.{Offer, places, turn, Fill, fillsOf}
-use Rattle.rules.specs.Execution.{Mode, turnOf, executed}
+use Rattle.rules.specs.Execution.{Mode, turnOf, executed, ready, Reply, executeFound, execute}
+use Rattle.rules.specs.Book as B
+use Rattle.rules.specs.Step.{recordsOf}
 use Rattle.types.specs.declared.Strategy.{Strategy}
 use Rattle.types.specs.declared.Market.{Market}
 use Rattle.types.specs.declared.Book.{Book}
@@ -54,3 +57,21 @@ pub record AfterTurn (mode : Mode) (s : Strategy) (m : Market) (b : Book) (a : A
 -- the same whatever the clock says
 abbrev pub IsExecuted : Mode → Strategy → Market → Book → Auction → ℕ → Executed → Type 0
 IsExecuted mode s m b a k r = (c : T.Clock) → AfterTurn mode s m b a k r c
+
+-- whether an order is ready for its turn, whatever the book, the auction and the clock say
+abbrev pub IsReady : Mode → Strategy → Market → B.Entry → Bool → Type 0
+IsReady mode s m o r = (b : Book) (a : Auction) (c : T.Clock) → r ≡ ready mode (before s m b a c) o
+
+-- a reply of the rules leaves this book, this market and these records
+pub record Leaves (s : Strategy) (q : Reply) (r : Executed) (c : T.Clock) : Type 0 where
+  pub book : entriesOf (r .book) ≡ q .state .book
+  pub market : marketOf (r .market) (legCount s) ≡ q .state .market
+  pub records : batchFills (c .next - 1) (r .batch) ≡ recordsOf (q .turns)
+
+-- the turn of the order at place k, if it is ready, whatever the clock says
+abbrev pub IsTurned : Mode → Strategy → Market → Book → Auction → ℕ → Executed → Type 0
+IsTurned mode s m b a k r = (c : T.Clock) → Leaves s (executeFound mode (before s m b a c) (B.found (entryAt b k))) r c
+
+-- the turn of the order under an id, if it has one, whatever the clock says
+abbrev pub IsServed : Mode → Strategy → Market → Book → Auction → ℕ → Executed → Type 0
+IsServed mode s m b a id r = (c : T.Clock) → Leaves s (execute mode id (before s m b a c)) r c

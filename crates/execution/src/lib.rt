@@ -4,9 +4,9 @@ ghost use Prim.Native.Nat.{_<_, min};
 ghost use lib.ListN.{length, take};
 ghost use Rattle.rules.specs.Basics.{sum};
 ghost use Rattle.rules.specs.Execution.{stageAfter};
-ghost use Rattle.types.specs.View.{stageOf, derivedOf};
+ghost use Rattle.types.specs.View.{stageOf, entryOf, derivedOf};
 ghost use Rattle.turn.specs.Open.{modeOf};
-ghost use Rattle.execution.specs.Batches.{IsBatch, IsExecuted};
+ghost use Rattle.execution.specs.Batches.{IsBatch, IsExecuted, IsReady, IsTurned, IsServed};
 use turn::Mode;
 use types::Auction;
 use types::Book;
@@ -123,4 +123,71 @@ pub fn execute(mode: u8, s: Strategy, m: Market, b: Book, a: Auction, at: usize)
         market: left,
         batch: t,
     }
+}
+
+// "queue orders execute"; "held orders become live .., each executing first"; "live orders at or through the derived contra price execute".
+fn is_ready(mode: u8, s: Strategy, m: Market, o: Entry) -> bool
+    ensures { λ r. ⌜ IsReady (modeOf mode) s m (entryOf o) r ⌝ }
+{
+    if mode == Mode::FROM_QUEUE {
+        return scan::is_queued(o.stage);
+    }
+    if mode == Mode::GOING_LIVE {
+        return scan::is_held(o.stage);
+    }
+    let d = market::derived(o.buy, s, m);
+    let within = turn::is_within(o.buy, d.price, o.price);
+    scan::is_live(o.stage) & ((0 < d.units) & within)
+}
+
+// The batch of no turn.
+fn no_batch() -> Batch
+    ensures { λ r. ⌜ r .count ≡ 0 ⌝ }
+{
+    Batch {
+        legs: 0,
+        order: 0,
+        units: 0,
+        count: 0,
+        slots: [0; 65],
+        places: [0; 65],
+        gave: [0; 65],
+        ids: [0; 64],
+        prices: [0; 64],
+    }
+}
+
+// What a turn that does not take place leaves.
+fn unmoved(m: Market, b: Book) -> Executed
+    ensures { λ r. ⌜ (r .book ≡ b) × (r .market ≡ m) × (r .batch .count ≡ 0) ⌝ }
+{
+    let batch = no_batch();
+    Executed {
+        book: b,
+        market: m,
+        batch,
+    }
+}
+
+// The turn of the order at place k, if it is ready.
+fn execute_if(mode: u8, s: Strategy, m: Market, b: Book, a: Auction, k: usize) -> Executed
+    requires { ⌜ k < 64 ⌝ }
+    ensures { λ r. ⌜ IsTurned (modeOf mode) s m b a k r ⌝ }
+{
+    let o = book::entry_at(b, k);
+    if is_ready(mode, s, m, o) {
+        return execute(mode, s, m, b, a, k);
+    }
+    unmoved(m, b)
+}
+
+// The turn of the order under an id, if it is open and ready still.
+pub fn serve(mode: u8, s: Strategy, m: Market, b: Book, a: Auction, id: u32) -> Executed
+    ensures { λ r. ⌜ IsServed (modeOf mode) s m b a id r ⌝ }
+{
+    let k = scan::place_of(&b.ids, b.count, id);
+    if k < scan::shown(b.count) {
+        return execute_if(mode, s, m, b, a, k);
+    }
+    unmoved(m, b)
 }

@@ -300,6 +300,13 @@ fn spot(buy: bool, price: u64, rank: u32) -> u32
     key(buy, price) * 8 + rank
 }
 
+// Whether a price is within a limit.
+pub fn is_within(buy: bool, price: u64, limit: u32) -> bool
+    ensures { λ r. ⌜ r ≡ leb (keyOf buy price) (keyOf buy limit) ⌝ }
+{
+    key(buy, price) <= key(buy, limit as u64)
+}
+
 // The units at a price "within the limit", whose key is given: beyond it, none.
 fn within(buy: bool, price: u64, limit: u32, units: u32) -> u32
     ensures { λ r. ⌜ r ≡ pick (leb (keyOf buy price) limit) units 0 ⌝ }
