@@ -20,6 +20,7 @@ use Rattle.work.specs.declared.Work.{Work}
 pub record IsServed (mode : Mode) (s : Held) (id : ℕ) (r : Served) : Type 0 where
   pub state : stateOf (r .state) ≡ execute mode id (stateOf s) .state
   pub records : batchFills (s .clock .next - 1) (r .batch) ≡ recordsOf (execute mode id (stateOf s) .turns)
+  pub number : r .state .clock .next ≡ s .clock .next
 
 -- the turns that are left: of the queue, of held orders, of the legs' pass with its sellers to come, of its sellers
 unfoldable pub left : ℕ → List ℕ → List ℕ → State → Reply

@@ -1,7 +1,8 @@
 // What an accepted message sets off, turn after turn.
 ghost use mathlib.Core.Path.{_≡_};
+ghost use Prim.Native.Nat.{_+_, _<_, _≤_, min};
 ghost use Rattle.turn.specs.Open.{modeOf};
-ghost use Rattle.work.specs.Rest.{IsServed};
+ghost use Rattle.work.specs.Rest.{IsServed, Same};
 use execution::Batch;
 use types::Book;
 use types::Market;
@@ -52,4 +53,29 @@ pub fn serve_id(mode: u8, s: State, id: u32) -> Served
     let batch = t.batch;
     let state = after(s, book, market);
     Served { state, batch }
+}
+
+// The next turn of a phase.
+fn take_turn(w: Work) -> Work
+    requires { ⌜ (w .at < min (w .count) 64) × (w .phase < 4) × (w .batch .count ≤ w .used) ⌝ }
+    ensures { λ r. ⌜ Same w r × (r .phase ≡ w .phase) × (r .at ≡ w .at + 1) × (r .count ≡ w .count) ⌝ }
+{
+    let at = w.at;
+    let s = w.state;
+    let r = serve_id(w.phase, s, w.ids[at]);
+    let state = r.state;
+    let batch = r.batch;
+    let ids = w.ids;
+    let sellers = w.sellers;
+    Work {
+        state,
+        batch,
+        used: 0,
+        phase: w.phase,
+        ids,
+        count: w.count,
+        at: at + 1,
+        sellers,
+        others: w.others,
+    }
 }

@@ -1,3 +1,4 @@
+use Rattle.types.specs.declared.State.{State}
 use mathlib.Core.Path.{ap, ap₂, sym, _∙_}
 use Rattle.types.specs.View.{clockOf, stateOf}
 use Rattle.turn.specs.Open.{modeOf}
@@ -19,9 +20,10 @@ returns c =
     let s = stateOf (a .s) in
     record {
       state =
-        ap stateOf (c .after .ensures) ∙ ap₂ (λ m b. record { strategy = s .strategy; market = m; book = b; auction = s .auction; clock = s .clock }) (t .market) (t .book)
-        ∙ sym (turn-moved (modeOf (a .mode)) (a .id) s);
+          ap stateOf (c .after .ensures) ∙ ap₂ (λ m b. record { strategy = s .strategy; market = m; book = b; auction = s .auction; clock = s .clock }) (t .market) (t .book)
+          ∙ sym (turn-moved (modeOf (a .mode)) (a .id) s);
       records = t .records;
+      number = ap (λ (x : State). x .clock .next) (c .after .ensures);
     }
 
 pub serve-id-spec : {M : Type 1} → statement M
