@@ -19,7 +19,7 @@ add-t15 c = search needs
 returns : tie.Need-returns
 returns c =
     let w = c .before .before .before .before .before .before .before .args .t1 in
-    (turn-same w (c .before .before .before .before .serve-id .result) (c .before .before .before .before .serve-id .ensures) (search needs) (search needs) (search needs) (search needs), refl, refl, refl)
+    (turn-same w (c .before .before .before .before .serve-id .result) (c .before .before .before .before .serve-id .ensures) (search (needs, c .before .before .before .before .before .before .before .good)) (search needs) (search needs) (search needs), refl, refl, refl)
 
 pub take-turn-spec : {M : Type 1} → statement M
 take-turn-spec =
