@@ -1,15 +1,16 @@
 -- How the turns that are left go on.
 use mathlib.Core.Path.{_≡_, refl, ap, ap₂, sym, _∙_}
-use mathlib.Core.Bool.{Bool, true, false}
+use mathlib.Core.Bool.{Bool, true, false, not}
 use mathlib.Core.List.{List, [], _∷_, _++_, map}
 use Prim.Native.Nat.{ℕ, zero, suc, _+_, _-_, _≤_, _<_, min}
 use native.Mathlib.Omega.{arith}
 use lib.ListN.{length, getD, take, drop}
-use Rattle.rules.specs.Book.{Entry, Found, nobody, found, find}
+use Rattle.rules.specs.Book.{Entry, Found, nobody, found, find, only, isHeld}
+use Rattle.rules.specs.Book.{idsOf as idsOfEntries}
 use Rattle.rules.specs.State.{State}
 use Rattle.rules.specs.Turn.{Fill}
 use Rattle.rules.specs.Execution.{Mode, fromQueue, goingLive, legsPass, Turn, Reply, still, then, ready, executed, executeIf, executeFound, execute, serve}
-use Rattle.rules.specs.Step.{passLegs, steps, closed, recordsOf}
+use Rattle.rules.specs.Step.{liveOf, passLegs, steps, closed, recordsOf}
 use Rattle.turn.specs.Open.{modeOf}
 use Rattle.execution.specs.declared.Batch.{Batch}
 use Rattle.execution.specs.Batches.{slotFill, batchFills}
@@ -92,13 +93,64 @@ turn-same w v i l h p u =
     let sell : List ℕ = take (min (w .others) 64) (w .sellers) in
     let e : Reply = execute (modeOf (w .phase)) (getD (w .ids) (w .at) 0) (stateOf (w .state)) in
     let q : rest w ≡ then e (left (w .phase) is sell) =
-        ap (λ (l : List ℕ). left (w .phase) l sell (stateOf (w .state))) (next-id (w .ids) (w .at) n h (omega arith)) ∙ left-turn (w .phase) (getD (w .ids) (w .at) 0) is sell (stateOf (w .state)) p
+    ap (λ (l : List ℕ). left (w .phase) l sell (stateOf (w .state))) (next-id (w .ids) (w .at) n h (omega arith)) ∙ left-turn (w .phase) (getD (w .ids) (w .at) 0) is sell (stateOf (w .state)) p
     in
     record {
       records =
-        ap₂ (λ (a b : List Fill). a ++ b) (ap (λ (k : ℕ). batchFills (k - 1) (v .batch)) (i .number) ∙ i .records) (ap (λ (x : State). recordsOf (left (w .phase) is sell x .turns)) (i .state))
-        ∙ sym (records-join (e .turns) (left (w .phase) is sell (e .state) .turns))
-        ∙ sym (ap (λ (x : Reply). recordsOf (x .turns)) q)
-        ∙ sym (ap (λ (a : List Fill). a ++ recordsOf (rest w .turns)) (all-given (w .state .clock .next - 1) (w .used) (w .batch) u));
+          ap₂ (λ (a b : List Fill). a ++ b) (ap (λ (k : ℕ). batchFills (k - 1) (v .batch)) (i .number) ∙ i .records) (ap (λ (x : State). recordsOf (left (w .phase) is sell x .turns)) (i .state))
+          ∙ sym (records-join (e .turns) (left (w .phase) is sell (e .state) .turns))
+          ∙ sym (ap (λ (x : Reply). recordsOf (x .turns)) q)
+          ∙ sym (ap (λ (a : List Fill). a ++ recordsOf (rest w .turns)) (all-given (w .state .clock .next - 1) (w .used) (w .batch) u));
       state = ap (λ (x : State). left (w .phase) is sell x .state) (i .state) ∙ sym (ap (λ (x : Reply). x .state) q);
     }
+
+-- ---- phases
+
+drop-past : (l : List ℕ) (n k : ℕ) → n ≤ k → drop k (take n l) ≡ []
+drop-past l zero k h = none k
+  where
+    none : (k : ℕ) → _≡_ {A = List ℕ} (drop k []) []
+    none zero = refl
+    none (suc k) = refl
+drop-past [] (suc n) zero h = absurd (omega arith)
+drop-past [] (suc n) (suc k) h = refl
+drop-past (x ∷ l) (suc n) zero h = absurd (omega arith)
+drop-past (x ∷ l) (suc n) (suc k) h = drop-past l n k (omega arith)
+
+-- where no turn took place, the same turns are left
+pub phase-same : (w r : Work) → r .batch ≡ w .batch → r .used ≡ w .used → r .state .clock .next ≡ w .state .clock .next → rest r ≡ rest w → Same w r
+unfolding emits
+phase-same w r b u n q =
+    record {
+      records =
+          ap₂ (λ (a c : List Fill). a ++ c)
+          (ap (λ (t : Batch). drop (r .used) (batchFills (r .state .clock .next - 1) t)) b ∙ ap₂ (λ (k m : ℕ). drop k (batchFills (m - 1) (w .batch))) u n)
+          (ap (λ (x : Reply). recordsOf (x .turns)) q);
+      state = ap (λ (x : Reply). x .state) q;
+    }
+
+-- the ids of a phase are used up
+module _ (ids sellers : List ℕ) (s : State) where
+  pub queue-left : left 0 [] sellers s ≡ left 1 (idsOfEntries (only (λ e. isHeld (e .stage)) (closed s .book))) sellers (closed s)
+  unfolding left serve steps
+  queue-left = refl
+
+  pub held-left : left 1 [] sellers s ≡ left 2 (liveOf (λ e. e .buy) (s .book)) (liveOf (λ e. not (e .buy)) (s .book)) s
+  unfolding left serve
+  held-left = refl
+
+  pub buyers-left : left 2 [] ids s ≡ left 3 ids sellers s
+  unfolding left
+  buyers-left = refl
+
+  pub sellers-left : left 3 [] sellers s ≡ left 4 ids sellers s
+  unfolding left serve
+  sellers-left = refl
+
+-- a phase whose ids are used up
+pub used-up : (w : Work) (p : ℕ) → w .phase ≡ p → min (w .count) 64 ≤ w .at → rest w ≡ left p [] (take (min (w .others) 64) (w .sellers)) (stateOf (w .state))
+used-up w p e h = ap₂ (λ (k : ℕ) (l : List ℕ). left k l (take (min (w .others) 64) (w .sellers)) (stateOf (w .state))) e (drop-past (w .ids) (min (w .count) 64) (w .at) h)
+
+-- the first n of 64 places
+pub first-ids : (n : ℕ) (l is : List ℕ) → n ≤ 64 → take n l ≡ is → take (min n 64) l ≡ is
+first-ids n l is h e = let z : min n 64 ≡ n = omega arith in rw z e

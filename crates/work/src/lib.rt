@@ -1,10 +1,14 @@
 // What an accepted message sets off, turn after turn.
 ghost use mathlib.Core.Path.{_≡_};
 ghost use Prim.Native.Nat.{_+_, _<_, _≤_, min};
+ghost use Rattle.rules.specs.Step.{closed};
+ghost use Rattle.types.specs.View.{stateOf};
 ghost use Rattle.turn.specs.Open.{modeOf};
 ghost use Rattle.work.specs.Rest.{IsServed, Same};
 use execution::Batch;
+use types::Auction;
 use types::Book;
+use types::Derived;
 use types::Market;
 use types::State;
 
@@ -78,4 +82,129 @@ fn take_turn(w: Work) -> Work
         sellers,
         others: w.others,
     }
+}
+
+// "remainders are held; all responses expire", and the auction is over.
+fn closed(s: State) -> State
+    ensures { λ r. ⌜ (stateOf r ≡ closed (stateOf s)) × (r .clock .next ≡ s .clock .next) ⌝ }
+{
+    let strategy = s.strategy;
+    let market = s.market;
+    let clock = s.clock;
+    let book = book::closed(s.book);
+    let start = Derived { price: 0, units: 0 };
+    let auction = Auction {
+        pending: false,
+        buy: false,
+        deadline: 0,
+        start,
+    };
+    State {
+        strategy,
+        market,
+        book,
+        auction,
+        clock,
+    }
+}
+
+// After the queue: "then the steps for no pending auction run", held orders first.
+fn leave_queue(w: Work) -> Work
+    requires { ⌜ (w .phase ≡ 0) × (min (w .count) 64 ≤ w .at) ⌝ }
+    ensures { λ r. ⌜ Same w r × (r .phase ≡ 1) × (r .batch ≡ w .batch) × (r .used ≡ w .used) ⌝ }
+{
+    let s = w.state;
+    let state = closed(s);
+    let mut ids = [0u32; 64];
+    let count = scan::held_ids(
+        &state.book.ids,
+        &state.book.stages,
+        state.book.count,
+        &mut ids,
+    );
+    let batch = w.batch;
+    let sellers = w.sellers;
+    Work {
+        state,
+        batch,
+        used: w.used,
+        phase: 1,
+        ids,
+        count,
+        at: 0,
+        sellers,
+        others: w.others,
+    }
+}
+
+// After the held orders: "then live orders .. execute against the legs, buyers before sellers".
+fn leave_held(w: Work) -> Work
+    requires { ⌜ (w .phase ≡ 1) × (min (w .count) 64 ≤ w .at) ⌝ }
+    ensures { λ r. ⌜ Same w r × (r .phase ≡ 2) × (r .batch ≡ w .batch) × (r .used ≡ w .used) ⌝ }
+{
+    let state = w.state;
+    let mut ids = [0u32; 64];
+    let mut sellers = [0u32; 64];
+    let count = scan::live_ids(
+        &state.book.ids,
+        &state.book.stages,
+        &state.book.buys,
+        &state.book.prices,
+        state.book.count,
+        true,
+        &mut ids,
+    );
+    let others = scan::live_ids(
+        &state.book.ids,
+        &state.book.stages,
+        &state.book.buys,
+        &state.book.prices,
+        state.book.count,
+        false,
+        &mut sellers,
+    );
+    let batch = w.batch;
+    Work {
+        state,
+        batch,
+        used: w.used,
+        phase: 2,
+        ids,
+        count,
+        at: 0,
+        sellers,
+        others,
+    }
+}
+
+// After the buyers of the legs' pass: its sellers.
+fn leave_buyers(w: Work) -> Work
+    requires { ⌜ (w .phase ≡ 2) × (min (w .count) 64 ≤ w .at) ⌝ }
+    ensures { λ r. ⌜ Same w r × (r .phase ≡ 3) × (r .batch ≡ w .batch) × (r .used ≡ w .used) ⌝ }
+{
+    let state = w.state;
+    let batch = w.batch;
+    let sellers = w.sellers;
+    let ids = w.sellers;
+    Work {
+        state,
+        batch,
+        used: w.used,
+        phase: 3,
+        ids,
+        count: w.others,
+        at: 0,
+        sellers,
+        others: w.others,
+    }
+}
+
+// After the sellers: no turn is left.
+fn leave_sellers(w: Work) -> Work
+    requires { ⌜ (w .phase ≡ 3) × (min (w .count) 64 ≤ w .at) ⌝ }
+    ensures { λ r. ⌜ Same w r × (r .phase ≡ 4) × (r .batch ≡ w .batch) × (r .used ≡ w .used) ⌝ }
+{
+    let mut r = w;
+    r.phase = 4;
+    r
 }
