@@ -1,15 +1,17 @@
 -- How the turns that are left go on.
 use mathlib.Core.Path.{_≡_, refl, ap, ap₂, sym, _∙_}
-use mathlib.Core.Bool.{Bool, true, false, not}
+use mathlib.Core.Bool.{Bool, true, false, _&&_, not, true≢false}
 use mathlib.Core.List.{List, [], _∷_, _++_, map}
 use Prim.Native.Nat.{ℕ, zero, suc, _+_, _-_, _≤_, _<_, min}
 use native.Mathlib.Omega.{arith}
+use borrow.Author.Tests.{ltb-true, leb-true}
+use lib.Dec.{ltb, leb}
 use lib.ListN.{length, getD, take, drop}
 use Rattle.rules.specs.Book.{Entry, Found, nobody, found, find, only, isHeld}
 use Rattle.rules.specs.Book.{idsOf as idsOfEntries}
 use Rattle.rules.specs.State.{State}
 use Rattle.rules.specs.Turn.{Fill}
-use Rattle.rules.specs.Execution.{Mode, fromQueue, goingLive, legsPass, Turn, Reply, still, then, ready, executed, executeIf, executeFound, execute, serve}
+use Rattle.rules.specs.Execution.{Mode, fromQueue, goingLive, Turn, Reply, then, ready, executed, executeIf, executeFound, execute, serve}
 use Rattle.rules.specs.Step.{liveOf, passLegs, steps, closed, recordsOf}
 use Rattle.turn.specs.Open.{modeOf}
 use Rattle.execution.specs.declared.Batch.{Batch}
@@ -154,3 +156,18 @@ used-up w p e h = ap₂ (λ (k : ℕ) (l : List ℕ). left k l (take (min (w .ot
 -- the first n of 64 places
 pub first-ids : (n : ℕ) (l is : List ℕ) → n ≤ 64 → take n l ≡ is → take (min n 64) l ≡ is
 first-ids n l is h e = let z : min n 64 ≡ n = omega arith in rw z e
+
+pub same-here : (w : Work) → Same w w
+same-here w = record { records = refl; state = refl }
+
+pub same-then : (w r t : Work) → Same w r → Same r t → Same w t
+same-then w r t a b = record { records = b .records ∙ a .records; state = b .state ∙ a .state }
+
+-- what an idle work is asked for
+pub idle-is : (p n u : ℕ) (b : Bool) → b ≡ (ltb p 4 && leb n u) → b ≡ true → (p < 4) × (n ≤ u)
+idle-is p n u b e t = both (ltb p 4) (leb n u) refl refl (sym e ∙ t)
+  where
+    both : (x y : Bool) → ltb p 4 ≡ x → leb n u ≡ y → (x && y) ≡ true → (p < 4) × (n ≤ u)
+    both true true f g h = (ltb-true p 4 f, leb-true n u g)
+    both true false f g h = absurd (true≢false (sym h))
+    both false y f g h = absurd (true≢false (sym h))

@@ -1,8 +1,7 @@
 -- What is left of a message's turns.
 use mathlib.Core.Path.{_≡_}
-use mathlib.Core.Bool.{not}
-use mathlib.Core.List.{List, [], _∷_, _++_}
-use Prim.Native.Nat.{ℕ, _-_, min}
+use mathlib.Core.List.{List, _++_}
+use Prim.Native.Nat.{ℕ, _+_, _-_, _*_, min}
 use lib.Dec.{eqb}
 use lib.ListN.{take, drop}
 use Rattle.rules.specs.Basics.{pick}
@@ -46,3 +45,7 @@ emits w = drop (w .used) (batchFills (w .state .clock .next - 1) (w .batch)) ++ 
 pub record Same (w r : Work) : Type 0 where
   pub records : emits r ≡ emits w
   pub state : rest r .state ≡ rest w .state
+
+-- how far a work is from its end, at most
+abbrev pub far : Work → ℕ
+far w = (4 - w .phase) * 65 + (min (w .count) 64 - w .at)

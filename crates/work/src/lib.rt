@@ -1,10 +1,12 @@
-// What an accepted message sets off, turn after turn.
+// Document 01, "Order and auction life": what an accepted message sets off, turn after turn. The phases are the queue, held orders going live, and the legs' pass, buyers before sellers.
 ghost use mathlib.Core.Path.{_≡_};
+ghost use mathlib.Core.Bool.{false, _&&_};
+ghost use lib.Dec.{ltb, leb};
 ghost use Prim.Native.Nat.{_+_, _<_, _≤_, min};
 ghost use Rattle.rules.specs.Step.{closed};
 ghost use Rattle.types.specs.View.{stateOf};
 ghost use Rattle.turn.specs.Open.{modeOf};
-ghost use Rattle.work.specs.Rest.{IsServed, Same};
+ghost use Rattle.work.specs.Rest.{IsServed, Same, far};
 use execution::Batch;
 use types::Auction;
 use types::Book;
@@ -48,7 +50,7 @@ fn after(s: State, book: Book, market: Market) -> State
 }
 
 // The turn of the order under an id, if it has one.
-pub fn serve_id(mode: u8, s: State, id: u32) -> Served
+fn serve_id(mode: u8, s: State, id: u32) -> Served
     ensures { λ r. ⌜ IsServed (modeOf mode) s id r ⌝ }
 {
     let t = execution::serve(mode, s.strategy, s.market, s.book, s.auction, id);
@@ -207,4 +209,52 @@ fn leave_sellers(w: Work) -> Work
     let mut r = w;
     r.phase = 4;
     r
+}
+
+// The next phase.
+fn next_phase(w: Work) -> Work
+    requires { ⌜ (w .phase < 4) × (min (w .count) 64 ≤ w .at) ⌝ }
+    ensures { λ r. ⌜ Same w r × (r .phase ≡ w .phase + 1) ⌝ }
+{
+    if w.phase == 0 {
+        return leave_queue(w);
+    }
+    if w.phase == 1 {
+        return leave_held(w);
+    }
+    if w.phase == 2 {
+        return leave_buyers(w);
+    }
+    leave_sellers(w)
+}
+
+// A turn, or the next phase.
+fn step(w: Work) -> Work
+    requires { ⌜ (w .phase < 4) × (w .batch .count ≤ w .used) ⌝ }
+    ensures { λ r. ⌜ Same w r × (far r < far w) ⌝ }
+{
+    if w.at < scan::shown(w.count) {
+        return take_turn(w);
+    }
+    next_phase(w)
+}
+
+// Whether no record is at hand and turns may be left.
+fn is_idle(w: Work) -> bool
+    ensures { λ r. ⌜ r ≡ (ltb (w .phase) 4 && leb (w .batch .count) (w .used)) ⌝ }
+{
+    (w.phase < 4) & (w.batch.count <= w.used)
+}
+
+// Turns until a record is at hand, or none is left.
+pub fn advance(from: Work) -> Work
+    ensures { λ r. ⌜ Same from r × ((ltb (r .phase) 4 && leb (r .batch .count) (r .used)) ≡ false) ⌝ }
+{
+    let mut w = from;
+    let mut idle = is_idle(w);
+    while idle {
+        w = step(w);
+        idle = is_idle(w);
+    }
+    w
 }
