@@ -2,4 +2,3 @@ pub mod StageLaws
 pub mod StoreLaws
 pub mod ScanLaws
 pub mod PlaceLaws
-pub mod RuleLaws

@@ -11,20 +11,15 @@ use borrow.Author.Tests.{ne-eqb}
 use Rattle.rules.specs.Basics.{pick}
 use Rattle.rules.specs.Prices.{Derived}
 use Rattle.rules.specs.Book.{Stage, held, live, queued, answer, Entry, sameSide}
-use Rattle.rules.specs.State.{Auction, State, contraPrice}
+use Rattle.rules.specs.State.{Auction}
 use Rattle.rules.specs.Turn.{keyOf, rankNumber, place, sizes}
-use Rattle.rules.specs.Execution.{Mode, fromQueue, goingLive, legsPass, opens, rankOf, legsRank, offerOf, offersOf, legsOffer, interest, upTo, allUpTo, inside}
+use Rattle.rules.specs.Execution.{Mode, fromQueue, goingLive, legsPass, opens, rankOf, legsRank, offerOf, offersOf, legsOffer, upTo, allUpTo}
 use Rattle.rules.proofs.TestLaws.{pick-both}
 use Rattle.types.specs.View.{from, stageOf}
 use Rattle.types.proofs.TableLaws.{from-cons, from-end}
 use Rattle.share.proofs.LoopLaws.{push}
 use Rattle.turn.specs.Slots.{spots}
 use Rattle.turn.specs.Open.{modeOf, Shows, openTo}
-
--- with a state's auction, derived contra price and book it is the interest within the limit
-pub open-inside : (m : Mode) (s : State) (o : Entry) → openTo m (s .auction) (contraPrice s (o .buy)) o (s .book) ≡ inside m s o
-unfolding interest
-open-inside m s o = refl
 
 -- ---- modes and stages
 
