@@ -22,6 +22,7 @@ use Rattle.types.proofs.TableLaws.{from-length}
 use Rattle.book.proofs.SettleLaws.{settled-take}
 use Rattle.turn.specs.Slots.{spots, Under, IsTurn, IsSequence, recordAt, recordsAt}
 use Rattle.turn.specs.Open.{openTo, IsOpen}
+use Rattle.turn.specs.Record.{mostGiven}
 use Rattle.turn.proofs.FillLaws.{take-at, records-map, record-slot}
 use Rattle.execution.specs.declared.Batch.{Batch}
 use Rattle.execution.specs.declared.Executed.{Executed}
@@ -57,7 +58,7 @@ units-are mode a d b k u gs g e =
     rw (← g) (e ∙ rw g (omega arith))
 
 -- the records of its slots
-pub records-are : (mode : Mode) (a : Auction) (d : P.Derived) (b : Book) (k : ℕ) (t : Batch) (number : ℕ) → t .legs ≡ d .price → t .order ≡ entryAt b k .id → t .ids ≡ b .ids → t .prices ≡ b .prices
+pub records-are : (mode : Mode) (a : Auction) (d : P.Derived) (b : Book) (k : ℕ) (t : Batch) (number : ℕ) → min (t .legs) mostGiven ≡ d .price → t .order ≡ entryAt b k .id → t .ids ≡ b .ids → t .prices ≡ b .prices
     → length (t .gave) ≡ 65 → Under (min (b .count) 64 + 1) (take (t .count) (t .slots))
     → spots (offersAt mode a d b k) ≡ take (min (b .count) 64 + 1) (t .places)
     → recordsAt number (entryAt b k .id) (offersAt mode a d b k) (take (min (b .count) 64 + 1) (t .gave)) (take (t .count) (t .slots)) ≡ batchFills number t
@@ -80,7 +81,7 @@ pub batch-is : (mode : Mode) (a : Auction) (d : P.Derived) (b : Book) (k : ℕ) 
     → IsTurn (entryAt b k .units) (take (min used 65) (t .places)) (take (min used 65) us) (take (min used 65) (t .gave))
     → IsSequence (take (min used 65) (t .places)) (take (min used 65) (t .gave)) (take (t .count) (t .slots))
     → Under (min used 65) (take (t .count) (t .slots)) → t .units ≡ min (sum (take (min used 65) (t .gave))) (entryAt b k .units)
-    → t .legs ≡ d .price → t .order ≡ entryAt b k .id → t .ids ≡ b .ids → t .prices ≡ b .prices → length (t .gave) ≡ 65 → IsBatch mode a d b k t
+    → min (t .legs) mostGiven ≡ d .price → t .order ≡ entryAt b k .id → t .ids ≡ b .ids → t .prices ≡ b .prices → length (t .gave) ≡ 65 → IsBatch mode a d b k t
 unfolding offersAt gaveAt
 batch-is mode a d b k t used us e opened given sequence under units p i is ps l =
     let n : ℕ = min (b .count) 64 in

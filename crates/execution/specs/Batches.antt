@@ -15,7 +15,7 @@ use Rattle.types.specs.declared.Book.{Book}
 use Rattle.types.specs.declared.Auction.{Auction}
 use Rattle.types.specs.View.{legCount, strategyOf, marketOf, entryAt, entriesOf, auctionOf}
 use Rattle.turn.specs.Open.{openTo}
-use Rattle.turn.specs.Record.{contraAt, priceAt, slotRecord}
+use Rattle.turn.specs.Record.{contraAt, priceAt, mostGiven, slotRecord}
 use Rattle.execution.specs.declared.Batch.{Batch}
 use Rattle.execution.specs.declared.Executed.{Executed}
 use Rattle.rules.specs.Prices as P
@@ -23,7 +23,7 @@ use Rattle.rules.specs.State as T
 
 -- the record of a slot
 abbrev pub slotFill : ℕ → Batch → ℕ → Fill
-slotFill number t s = slotRecord number (t .order) (getD (t .places) s 0) (contraAt s (getD (t .ids) (s - 1) 0)) (priceAt s (t .legs) (getD (t .prices) (s - 1) 0)) (getD (t .gave) s 0)
+slotFill number t s = slotRecord number (t .order) (getD (t .places) s 0) (contraAt s (getD (t .ids) (s - 1) 0)) (priceAt s (min (t .legs) mostGiven) (getD (t .prices) (s - 1) 0)) (getD (t .gave) s 0)
 
 -- the records of a batch, in the sequence of execution
 abbrev pub batchFills : ℕ → Batch → List Fill

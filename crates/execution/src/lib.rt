@@ -1,6 +1,6 @@
 // One order's turn: what is open to it, what each gives, its records, and the book and the market after it.
 ghost use mathlib.Core.Path.{_≡_};
-ghost use Prim.Native.Nat.{_<_, min};
+ghost use Prim.Native.Nat.{_<_, _≤_, min};
 ghost use lib.ListN.{length, take};
 ghost use Rattle.rules.specs.Basics.{sum};
 ghost use Rattle.rules.specs.Execution.{stageAfter};
@@ -70,7 +70,7 @@ fn place(k: usize) -> usize
 
 // What is open to the order at place k, what each slot gives it, and the slots with records.
 fn turned(mode: u8, a: Auction, d: Derived, b: Book, k: usize) -> Batch
-    requires { ⌜ k < 64 ⌝ }
+    requires { ⌜ (k < 64) × (d .price ≤ 4611686018427387904) ⌝ }
     ensures { λ r. ⌜ IsBatch (modeOf mode) a (derivedOf d) b k r ⌝ }
 {
     let mut places = [0u32; 65];
@@ -141,7 +141,7 @@ fn is_ready(mode: u8, s: Strategy, m: Market, o: Entry) -> bool
 }
 
 // The batch of no turn.
-fn no_batch() -> Batch
+pub fn no_batch() -> Batch
     ensures { λ r. ⌜ r .count ≡ 0 ⌝ }
 {
     Batch {

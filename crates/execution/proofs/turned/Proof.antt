@@ -1,7 +1,10 @@
-use mathlib.Core.Path.{refl}
+use mathlib.Core.Path.{_≡_, refl}
+use Prim.Native.Nat.{min}
+use native.Mathlib.Omega.{arith}
 use borrow.Author.Needs.{needs}
 use Rattle.types.specs.View.{derivedOf}
 use Rattle.turn.specs.Open.{modeOf}
+use Rattle.turn.specs.Record.{mostGiven}
 use Rattle.execution.proofs.ExecutionLaws.{batch-is}
 use Rattle.execution.proofs.turned.Statement.{statement}
 use Rattle.execution.proofs.turned.Tie as tie
@@ -51,9 +54,11 @@ returns c =
     let ordering = taking .before .before .before in
     let giving = ordering .before .before .before .before in
     let opening = giving .before .before .before .before .before in
-    let a = opening .before .before .before .before .before .before .before .before .before .before .before .args in
+    let from = opening .before .before .before .before .before .before .before .before .before .before .before in
+    let a = from .args in
+    let legs : min (a .d .price) mostGiven ≡ a .d .price = let h = from .pre .1 in omega arith in
     batch-is (modeOf (a .mode)) (a .a) (derivedOf (a .d)) (a .t4) (a .k) _ (opening .interest .result) _ (opening .interest .ensures .0) (opening .interest .ensures .3)
-    (giving .turn .ensures .1) (ordering .sequence .ensures .3) (ordering .sequence .ensures .2) (taking .took .ensures) refl refl refl refl (giving .turn .ensures .0)
+    (giving .turn .ensures .1) (ordering .sequence .ensures .3) (ordering .sequence .ensures .2) (taking .took .ensures) legs refl refl refl (giving .turn .ensures .0)
 
 pub turned-spec : {M : Type 1} → statement M
 turned-spec =

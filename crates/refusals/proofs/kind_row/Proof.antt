@@ -1,14 +1,6 @@
 use borrow.Author.Needs.{needs}
 use Rattle.refusals.proofs.kind_row.Statement.{statement}
 use Rattle.refusals.proofs.kind_row.Tie as tie
-use Rattle.refusals.proofs.kind_row.Reads as reads
-use Rattle.refusals.proofs.kind_row.Lts as lts
-use Rattle.refusals.proofs.cancel_row.Reads as cancel-row-reads
-use Rattle.refusals.proofs.local_row.Reads as local-row-reads
-use Rattle.refusals.proofs.modify_row.Reads as modify-row-reads
-use Rattle.refusals.proofs.national_row.Reads as national-row-reads
-use Rattle.refusals.proofs.order_row.Reads as order-row-reads
-use Rattle.refusals.proofs.response_row.Reads as response-row-reads
 
 enum-known-b : tie.Need-enum-known-b
 enum-known-b c = search needs
