@@ -162,19 +162,17 @@ ready-is w m s n i f = record { some = λ p. s (one (R.isAtHand (w .phases)) m p
     nought false e h = refl
     nought true e h = absurd (omega arith)
 
-module _ (w r : Work) (n : IsNext w r) where
-  pub state-next : lastState r ≡ lastState w
-  state-next = n .state
+pub state-next : (w r : Work) → IsNext w r → lastState r ≡ lastState w
+state-next w r n = n .state
 
-  module _ (ready : Ready w) (more : 0 < w .more) where
-    pub emits-more : emits w ≡ R.recordAt (w .phases) ∷ emits r
-    emits-more = ready .some more ∙ ap (λ (l : List Fill). R.recordAt (w .phases) ∷ l) (sym (n .records))
+pub emits-more : (w r : Work) → Ready w → 0 < w .more → IsNext w r → emits w ≡ R.recordAt (w .phases) ∷ emits r
+emits-more w r ready more n = ready .some more ∙ ap (λ (l : List Fill). R.recordAt (w .phases) ∷ l) (sym (n .records))
 
-    pub outcome-next : lastOutcome r ≡ lastOutcome w
-    outcome-next =
-        let l : length (emits w) ≡ length (emits r) + 1 = ap length emits-more ∙ omega arith in
-        let c : min (r .given + length (emits r)) leastRoom ≡ min (w .given + length (emits w)) leastRoom = rw (n .given, l) (omega arith) in
-        rw (c, n .state, n .number, n .act, n .subject) refl
+pub outcome-next : (w r : Work) → Ready w → 0 < w .more → IsNext w r → lastOutcome r ≡ lastOutcome w
+outcome-next w r ready more n =
+    let l : length (emits w) ≡ length (emits r) + 1 = ap length (emits-more w r ready more n) ∙ omega arith in
+    let c : min (r .given + length (emits r)) leastRoom ≡ min (w .given + length (emits w)) leastRoom = rw (n .given, l) (omega arith) in
+    rw (c, n .state, n .number, n .act, n .subject) refl
 
 -- the answer of a work of which no record is left
 pub finishes : (w : Work) (r : Answer) → Ready w → w .more ≤ 0 → IsFinish w r → (stateOf (r .state) ≡ lastState w) × (outcomeShown (r .outcome) ≡ lastOutcome w)

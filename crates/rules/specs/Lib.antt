@@ -21,3 +21,4 @@ pub mod Best
 pub mod Demand
 pub mod Bound
 pub mod Cents
+pub mod Print
