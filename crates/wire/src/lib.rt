@@ -1,0 +1,101 @@
+// Document 01, "Tape": "Little-endian", "prices signed". Numbers at a place of a lent slice; a byte past its end is 0.
+ghost use mathlib.Core.Path.{_≡_};
+ghost use Prim.Native.Nat.{_+_, _<_, _^_};
+ghost use lib.IntN.{negsuc};
+ghost use lib.ListN.{getD};
+ghost use Rattle.rules.specs.Tape.{half, word, long, signed};
+
+// ---- at a place that leaves room for the places behind it
+
+fn byte_in(s: &[u8], at: usize) -> u8
+    ensures { λ r. ⌜ r ≡ getD (now (s .entry)) at 0 ⌝ }
+{
+    if at < s.len() {
+        return s[at];
+    }
+    0
+}
+
+fn half_in(s: &[u8], at: usize) -> u16
+    requires { ⌜ at + 1 < 2 ^ 64 ⌝ }
+    ensures { λ r. ⌜ r ≡ half (now (s .entry)) at ⌝ }
+{
+    let low = byte_in(s, at) as u16;
+    let high = byte_in(s, at + 1) as u16;
+    low + 256 * high
+}
+
+fn word_in(s: &[u8], at: usize) -> u32
+    requires { ⌜ at + 3 < 2 ^ 64 ⌝ }
+    ensures { λ r. ⌜ r ≡ word (now (s .entry)) at ⌝ }
+{
+    let low = half_in(s, at) as u32;
+    let high = half_in(s, at + 2) as u32;
+    low + 65_536 * high
+}
+
+fn long_in(s: &[u8], at: usize) -> u64
+    requires { ⌜ at + 7 < 2 ^ 64 ⌝ }
+    ensures { λ r. ⌜ r ≡ long (now (s .entry)) at ⌝ }
+{
+    let low = word_in(s, at) as u64;
+    let high = word_in(s, at + 4) as u64;
+    low + 4_294_967_296 * high
+}
+
+// ---- at any place
+
+// The byte at a place.
+pub fn byte_at(s: &[u8], at: u32) -> u8
+    ensures { λ r. ⌜ r ≡ getD (now (s .entry)) at 0 ⌝ }
+{
+    byte_in(s, at as usize)
+}
+
+// The 16-bit number at a place.
+pub fn half_at(s: &[u8], at: u32) -> u16
+    ensures { λ r. ⌜ r ≡ half (now (s .entry)) at ⌝ }
+{
+    half_in(s, at as usize)
+}
+
+// The 32-bit number at a place.
+pub fn word_at(s: &[u8], at: u32) -> u32
+    ensures { λ r. ⌜ r ≡ word (now (s .entry)) at ⌝ }
+{
+    word_in(s, at as usize)
+}
+
+// The 64-bit number at a place.
+pub fn long_at(s: &[u8], at: u32) -> u64
+    ensures { λ r. ⌜ r ≡ long (now (s .entry)) at ⌝ }
+{
+    long_in(s, at as usize)
+}
+
+// ---- signed
+
+// The number that is `below` under -1.
+fn under(below: u32) -> i32
+    requires { ⌜ below < 2147483648 ⌝ }
+    ensures { λ r. ⌜ r ≡ negsuc below ⌝ }
+{
+    -1 - (below as i32)
+}
+
+// The signed number that 32 bits stand for.
+pub fn signed_of(bits: u32) -> i32
+    ensures { λ r. ⌜ r ≡ signed bits ⌝ }
+{
+    if bits < 2_147_483_648 {
+        return bits as i32;
+    }
+    under(4_294_967_295 - bits)
+}
+
+// The signed 32-bit number at a place.
+pub fn signed_at(s: &[u8], at: u32) -> i32
+    ensures { λ r. ⌜ r ≡ signed (word (now (s .entry)) at) ⌝ }
+{
+    signed_of(word_at(s, at))
+}
