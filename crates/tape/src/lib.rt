@@ -1,0 +1,404 @@
+// Document 01, "Tape": from bytes to an opening and messages. What is read past the end of a tape is 0.
+ghost use mathlib.Core.Path.{_≡_};
+ghost use lib.Dec.{ltb};
+ghost use lib.IntN.{pos};
+ghost use Rattle.rules.specs.Basics.{pick};
+ghost use Rattle.rules.specs.Messages.{order};
+ghost use Rattle.rules.specs.Tape.{settingsOf as settingsIn, headerOf as headerIn, usesOf as usesIn, fieldsOf as fieldsIn, usedFields, localOf as localIn, nationalOf as nationalIn, termsOf, changeOf as changeIn, bodyOf as bodyIn, messageOf as messageIn};
+ghost use Rattle.types.specs.declared.Body.the-variants.{Order as sentOrder};
+ghost use Rattle.types.specs.View.{settingsOf, localOf, nationalOf, responseTerms, changeOf, bodyOf, messageOf};
+ghost use Rattle.tape.specs.View.{headerOf, usesOf, fieldsOf};
+use types::Amounts;
+use types::Body;
+use types::Cancel;
+use types::Local;
+use types::Message;
+use types::Modify;
+use types::National;
+use types::Order;
+use types::Response;
+use types::Settings;
+
+// ---- header
+
+// "16-bit leg count, leg offset, message count, message offset, .."; then the settings.
+pub struct Header {
+    pub legcount: u16,
+    pub legoffset: u16,
+    pub messagecount: u16,
+    pub messageoffset: u16,
+    pub settings: Settings,
+}
+
+impl Header {
+    pub const BYTES: usize = 40;
+}
+
+// "amounts for MPV 1, 5, 10; 32-bit minimum; 64-bit first number; 64-bit opening time".
+fn settings_of(t: &[u8]) -> Settings
+    ensures { λ r. ⌜ settingsOf r ≡ settingsIn (now (t .entry)) ⌝ }
+{
+    let amounts = Amounts {
+        one: wire::half_at(t, 14),
+        five: wire::half_at(t, 16),
+        ten: wire::half_at(t, 18),
+    };
+    Settings {
+        first: wire::long_at(t, 24),
+        time: wire::long_at(t, 32),
+        minimum: wire::word_at(t, 20),
+        interval: wire::half_at(t, 8),
+        distance: wire::half_at(t, 10),
+        legs: wire::half_at(t, 12),
+        amounts,
+    }
+}
+
+// The header of a tape.
+pub fn header_of(t: &[u8]) -> Header
+    ensures { λ r. ⌜ headerOf r ≡ headerIn (now (t .entry)) ⌝ }
+{
+    let settings = settings_of(t);
+    Header {
+        legcount: wire::half_at(t, 0),
+        legoffset: wire::half_at(t, 2),
+        messagecount: wire::half_at(t, 4),
+        messageoffset: wire::half_at(t, 6),
+        settings,
+    }
+}
+
+// ---- the fields that a kind uses
+
+// A row of flags, but for the time, which all kinds use.
+pub struct Uses {
+    pub side: bool,
+    pub account: bool,
+    pub wishorleg: bool,
+    pub id: bool,
+    pub participant: bool,
+    pub units: bool,
+    pub price: bool,
+    pub ask: bool,
+    pub asksize: bool,
+}
+
+// "1 adds leg, bid size, bid, ask, ask size".
+const LOCAL: Uses = Uses {
+    side: false,
+    account: false,
+    wishorleg: true,
+    id: false,
+    participant: false,
+    units: true,
+    price: true,
+    ask: true,
+    asksize: true,
+};
+
+// "2 leg, bid, ask".
+const NATIONAL: Uses = Uses {
+    side: false,
+    account: false,
+    wishorleg: true,
+    id: false,
+    participant: false,
+    units: false,
+    price: true,
+    ask: true,
+    asksize: false,
+};
+
+// "3 side, account, wish, id, participant, units, price".
+const ORDER: Uses = Uses {
+    side: true,
+    account: true,
+    wishorleg: true,
+    id: true,
+    participant: true,
+    units: true,
+    price: true,
+    ask: false,
+    asksize: false,
+};
+
+// "4 the same less wish".
+const RESPONSE: Uses = Uses {
+    side: true,
+    account: true,
+    wishorleg: false,
+    id: true,
+    participant: true,
+    units: true,
+    price: true,
+    ask: false,
+    asksize: false,
+};
+
+// "5 the same less wish and account".
+const MODIFY: Uses = Uses {
+    side: true,
+    account: false,
+    wishorleg: false,
+    id: true,
+    participant: true,
+    units: true,
+    price: true,
+    ask: false,
+    asksize: false,
+};
+
+// "6 id, participant".
+const CANCEL: Uses = Uses {
+    side: false,
+    account: false,
+    wishorleg: false,
+    id: true,
+    participant: true,
+    units: false,
+    price: false,
+    ask: false,
+    asksize: false,
+};
+
+// "7 nothing".
+const CLOCK: Uses = Uses {
+    side: false,
+    account: false,
+    wishorleg: false,
+    id: false,
+    participant: false,
+    units: false,
+    price: false,
+    ask: false,
+    asksize: false,
+};
+
+impl Uses {
+    pub const LEAST_KIND: u8 = 1;
+
+    pub const MOST_KIND: u8 = 7;
+}
+
+// "A table of seven rows says which fields each kind uses".
+const KINDS: [Uses; 7] = [LOCAL, NATIONAL, ORDER, RESPONSE, MODIFY, CANCEL, CLOCK];
+
+// The row of a kind. A kind above 7 uses nothing; 0 is no kind either, and reads the first row.
+pub fn uses_of(kind: u8) -> Uses
+    ensures { λ r. ⌜ usesOf r ≡ usesIn kind ⌝ }
+{
+    let rows = KINDS;
+    if kind < Uses::LEAST_KIND {
+        return rows[0];
+    }
+    if kind <= Uses::MOST_KIND {
+        return rows[(kind - 1) as usize];
+    }
+    CLOCK
+}
+
+// ---- messages
+
+// The fields of a message record. The fourth byte is an order's auction wish or a quote's leg; units and price are a quote's bid size and bid.
+struct Fields {
+    pub kind: u8,
+    pub side: u8,
+    pub account: u8,
+    pub wishorleg: u8,
+    pub id: u32,
+    pub participant: u32,
+    pub units: u32,
+    pub price: i32,
+    pub ask: i32,
+    pub asksize: u32,
+    pub time: u64,
+}
+
+// "kind, side, account .., auction wish or leg from 0 ..; id, participant, units or bid size, price or bid, ask, ask size ..; 64-bit time".
+fn fields_of(p: &[u8]) -> Fields
+    ensures { λ r. ⌜ fieldsOf r ≡ fieldsIn (now (p .entry)) ⌝ }
+{
+    Fields {
+        kind: wire::byte_at(p, 0),
+        side: wire::byte_at(p, 1),
+        account: wire::byte_at(p, 2),
+        wishorleg: wire::byte_at(p, 3),
+        id: wire::word_at(p, 4),
+        participant: wire::word_at(p, 8),
+        units: wire::word_at(p, 12),
+        price: wire::signed_at(p, 16),
+        ask: wire::signed_at(p, 20),
+        asksize: wire::word_at(p, 24),
+        time: wire::long_at(p, 28),
+    }
+}
+
+// A field of one byte, if it is used.
+fn byte_if(used: bool, x: u8) -> u8
+    ensures { λ r. ⌜ r ≡ pick used x 0 ⌝ }
+{
+    if used { x } else { 0 }
+}
+
+// A number, if it is used.
+fn word_if(used: bool, x: u32) -> u32
+    ensures { λ r. ⌜ r ≡ pick used x 0 ⌝ }
+{
+    if used { x } else { 0 }
+}
+
+// A price, if it is used.
+fn cents_if(used: bool, x: i32) -> i32
+    ensures { λ r. ⌜ r ≡ pick used x (pos 0) ⌝ }
+{
+    if used { x } else { 0 }
+}
+
+// "others, and gaps, are ignored": a field that is not used reads as 0.
+fn used_fields(u: Uses, f: Fields) -> Fields
+    ensures { λ r. ⌜ fieldsOf r ≡ usedFields (usesOf u) (fieldsOf f) ⌝ }
+{
+    let kind = f.kind;
+    let time = f.time;
+    Fields {
+        kind,
+        side: byte_if(u.side, f.side),
+        account: byte_if(u.account, f.account),
+        wishorleg: byte_if(u.wishorleg, f.wishorleg),
+        id: word_if(u.id, f.id),
+        participant: word_if(u.participant, f.participant),
+        units: word_if(u.units, f.units),
+        price: cents_if(u.price, f.price),
+        ask: cents_if(u.ask, f.ask),
+        asksize: word_if(u.asksize, f.asksize),
+        time,
+    }
+}
+
+// A local quote's fields.
+fn local_of(f: Fields) -> Local
+    ensures { λ r. ⌜ localOf r ≡ localIn (fieldsOf f) ⌝ }
+{
+    let leg = f.wishorleg;
+    let bidsize = f.units;
+    let bid = f.price;
+    let ask = f.ask;
+    let asksize = f.asksize;
+    Local {
+        leg,
+        bidsize,
+        bid,
+        ask,
+        asksize,
+    }
+}
+
+// A national quote's.
+fn national_of(f: Fields) -> National
+    ensures { λ r. ⌜ nationalOf r ≡ nationalIn (fieldsOf f) ⌝ }
+{
+    let leg = f.wishorleg;
+    let bid = f.price;
+    let ask = f.ask;
+    National { leg, bid, ask }
+}
+
+// An order's; "wish 0 no, otherwise yes".
+fn order_of(f: Fields) -> Order
+    ensures { λ r. ⌜ bodyOf (sentOrder r) ≡ order (termsOf (fieldsOf f)) (ltb 0 (f .wishorleg)) ⌝ }
+{
+    let side = f.side;
+    let account = f.account;
+    let wish = 0 < f.wishorleg;
+    let id = f.id;
+    let participant = f.participant;
+    let units = f.units;
+    let price = f.price;
+    Order {
+        side,
+        account,
+        wish,
+        id,
+        participant,
+        units,
+        price,
+    }
+}
+
+// A response's.
+fn response_of(f: Fields) -> Response
+    ensures { λ r. ⌜ responseTerms r ≡ termsOf (fieldsOf f) ⌝ }
+{
+    let side = f.side;
+    let account = f.account;
+    let id = f.id;
+    let participant = f.participant;
+    let units = f.units;
+    let price = f.price;
+    Response {
+        side,
+        account,
+        id,
+        participant,
+        units,
+        price,
+    }
+}
+
+// A modification's.
+fn modify_of(f: Fields) -> Modify
+    ensures { λ r. ⌜ changeOf r ≡ changeIn (fieldsOf f) ⌝ }
+{
+    let side = f.side;
+    let id = f.id;
+    let participant = f.participant;
+    let units = f.units;
+    let price = f.price;
+    Modify {
+        side,
+        id,
+        participant,
+        units,
+        price,
+    }
+}
+
+// "Kinds: 1 local, 2 national, 3 order, 4 response, 5 modify, 6 cancel, 7 clock".
+fn body_of(f: Fields) -> Body
+    ensures { λ r. ⌜ bodyOf r ≡ bodyIn (fieldsOf f) ⌝ }
+{
+    let kind = f.kind;
+    if kind == 1 {
+        return Body::Local(local_of(f));
+    }
+    if kind == 2 {
+        return Body::National(national_of(f));
+    }
+    if kind == 3 {
+        return Body::Order(order_of(f));
+    }
+    if kind == 4 {
+        return Body::Response(response_of(f));
+    }
+    if kind == 5 {
+        return Body::Modify(modify_of(f));
+    }
+    if kind == 6 {
+        let id = f.id;
+        let participant = f.participant;
+        return Body::Cancel(Cancel { id, participant });
+    }
+    Body::Clock
+}
+
+// The message of the part of the tape that starts at its record.
+pub fn message_of(p: &[u8]) -> Message
+    ensures { λ r. ⌜ messageOf r ≡ messageIn (now (p .entry)) ⌝ }
+{
+    let read = fields_of(p);
+    let row = uses_of(wire::byte_at(p, 0));
+    let f = used_fields(row, read);
+    let body = body_of(f);
+    let time = f.time;
+    Message { time, body }
+}
