@@ -1,9 +1,14 @@
 -- What the tape's types stand for in the rules.
+use mathlib.Core.List.{List}
+use Prim.Native.Nat.{ℕ}
+use lib.ListN.{getD}
+use Rattle.rules.specs.Strategy as S
 use Rattle.rules.specs.Tape as T
-use Rattle.types.specs.View.{settingsOf}
+use Rattle.types.specs.View.{from, settingsOf}
 use Rattle.tape.specs.declared.Header.{Header}
 use Rattle.tape.specs.declared.Uses.{Uses}
 use Rattle.tape.specs.declared.Fields.{Fields}
+use Rattle.tape.specs.declared.Section.{Section}
 
 -- a header
 abbrev pub headerOf : Header → T.Header
@@ -36,3 +41,15 @@ fieldsOf f =
       askSize = f .asksize;
       time = f .time;
     }
+
+-- the first n bytes of a part; past its end they are 0
+abbrev pub bytesIn : ℕ → List ℕ → List ℕ
+bytesIn n p = from (λ i. getD p i 0) 0 n
+
+-- a leg, its symbol of 21 bytes wherever the part ends
+abbrev pub legIn : List ℕ → S.Leg
+legIn p = record { symbol = bytesIn 21 p; side = getD p 21 0; ratio = getD p 22 0; mpv = getD p 23 0 }
+
+-- a section
+abbrev pub sectionOf : Section → T.Section
+sectionOf s = record { start = s .start; size = s .size }

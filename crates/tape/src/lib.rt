@@ -2,15 +2,17 @@
 ghost use mathlib.Core.Path.{_≡_};
 ghost use lib.Dec.{ltb};
 ghost use lib.IntN.{pos};
+ghost use lib.ListN.{drop};
 ghost use Rattle.rules.specs.Basics.{pick};
 ghost use Rattle.rules.specs.Messages.{order};
-ghost use Rattle.rules.specs.Tape.{settingsOf as settingsIn, headerOf as headerIn, usesOf as usesIn, fieldsOf as fieldsIn, usedFields, localOf as localIn, nationalOf as nationalIn, termsOf, changeOf as changeIn, bodyOf as bodyIn, messageOf as messageIn};
+ghost use Rattle.rules.specs.Tape.{settingsOf as settingsIn, headerOf as headerIn, usesOf as usesIn, fieldsOf as fieldsIn, usedFields, localOf as localIn, nationalOf as nationalIn, termsOf, changeOf as changeIn, bodyOf as bodyIn, messageOf as messageIn, legSection, messageSection, isMisplaced, overlaps, isDamaged, isKind, knownKinds, tapeRefusal};
 ghost use Rattle.types.specs.declared.Body.the-variants.{Order as sentOrder};
-ghost use Rattle.types.specs.View.{settingsOf, localOf, nationalOf, responseTerms, changeOf, bodyOf, messageOf};
-ghost use Rattle.tape.specs.View.{headerOf, usesOf, fieldsOf};
+ghost use Rattle.types.specs.View.{legOf, settingsOf, localOf, nationalOf, responseTerms, changeOf, bodyOf, messageOf};
+ghost use Rattle.tape.specs.View.{headerOf, usesOf, fieldsOf, bytesIn, legIn, sectionOf};
 use types::Amounts;
 use types::Body;
 use types::Cancel;
+use types::Leg;
 use types::Local;
 use types::Message;
 use types::Modify;
@@ -32,6 +34,9 @@ pub struct Header {
 
 impl Header {
     pub const BYTES: usize = 40;
+
+    // Of the whole tape.
+    pub const MOST_TAPE: usize = 65_535;
 }
 
 // "amounts for MPV 1, 5, 10; 32-bit minimum; 64-bit first number; 64-bit opening time".
@@ -401,4 +406,134 @@ pub fn message_of(p: &[u8]) -> Message
     let body = body_of(f);
     let time = f.time;
     Message { time, body }
+}
+
+// ---- legs
+
+// A leg's symbol.
+fn symbol_of(p: &[u8]) -> [u8; 21]
+    ensures { λ r. ⌜ r ≡ bytesIn 21 (now (p .entry)) ⌝ }
+{
+    let mut s = [0u8; 21];
+    let mut i: usize = 0;
+    while i < 21 {
+        s[i] = wire::byte_at(p, i as u32);
+        i += 1;
+    }
+    s
+}
+
+// "symbol, side, ratio, MPV", of the part of the tape that starts at the record.
+pub fn leg_of(p: &[u8]) -> Leg
+    ensures { λ r. ⌜ legOf r ≡ legIn (now (p .entry)) ⌝ }
+{
+    let symbol = symbol_of(p);
+    Leg {
+        symbol,
+        side: wire::byte_at(p, 21),
+        ratio: wire::byte_at(p, 22),
+        mpv: wire::byte_at(p, 23),
+    }
+}
+
+// ---- sections
+
+// The bytes of a section: where they start, and how many they are.
+struct Section {
+    pub start: u32,
+    pub size: u32,
+}
+
+impl Section {
+    // "Legs are 24 bytes".
+    pub const LEG: u32 = 24;
+
+    // "Messages are 36".
+    pub const MESSAGE: u32 = 36;
+}
+
+// The legs' section.
+fn leg_section(h: Header) -> Section
+    ensures { λ r. ⌜ sectionOf r ≡ legSection (headerOf h) ⌝ }
+{
+    let start = h.legoffset as u32;
+    let size = h.legcount as u32 * Section::LEG;
+    Section { start, size }
+}
+
+// The messages' section.
+fn message_section(h: Header) -> Section
+    ensures { λ r. ⌜ sectionOf r ≡ messageSection (headerOf h) ⌝ }
+{
+    let start = h.messageoffset as u32;
+    let size = h.messagecount as u32 * Section::MESSAGE;
+    Section { start, size }
+}
+
+// "a section that is not empty overlapping the header .., or running past the end".
+fn is_misplaced(s: Section, bytes: usize) -> bool
+    ensures { λ r. ⌜ r ≡ isMisplaced (sectionOf s) bytes ⌝ }
+{
+    let start = s.start as usize;
+    let size = s.size as usize;
+    (0 < size) & ((start < Header::BYTES) | (bytes < start + size))
+}
+
+// "overlapping .. the other section": a byte is in both.
+fn overlap(a: Section, b: Section) -> bool
+    ensures { λ r. ⌜ r ≡ overlaps (sectionOf a) (sectionOf b) ⌝ }
+{
+    let first = a.start as usize;
+    let firstsize = a.size as usize;
+    let second = b.start as usize;
+    let secondsize = b.size as usize;
+    let some = (0 < firstsize) & (0 < secondsize);
+    some & (first < second + secondsize) & (second < first + firstsize)
+}
+
+// "60 tape under 40 or over 65,535 bytes, or a section that is not empty overlapping the header or the other section, or running past the end".
+fn is_damaged(t: &[u8]) -> bool
+    ensures { λ r. ⌜ r ≡ isDamaged (now (t .entry)) ⌝ }
+{
+    let bytes = t.len();
+    let h = header_of(t);
+    let legs = leg_section(h);
+    let messages = message_section(h);
+    let sized = (Header::BYTES <= bytes) & (bytes <= Header::MOST_TAPE);
+    !sized | is_misplaced(legs, bytes) | is_misplaced(messages, bytes) | overlap(legs, messages)
+}
+
+// One of the seven kinds.
+fn is_kind(kind: u8) -> bool
+    ensures { λ r. ⌜ r ≡ isKind kind ⌝ }
+{
+    (Uses::LEAST_KIND <= kind) & (kind <= Uses::MOST_KIND)
+}
+
+// Whether the kinds of so many message records are all known.
+fn known_kinds(t: &[u8], offset: u16, count: u16) -> bool
+    ensures { λ r. ⌜ r ≡ knownKinds count (drop offset (now (t .entry))) ⌝ }
+{
+    let mut at = offset as u32;
+    let mut left = count;
+    while 0 < left {
+        if !is_kind(wire::byte_at(t, at)) {
+            return false;
+        }
+        at += Section::MESSAGE;
+        left -= 1;
+    }
+    true
+}
+
+// The number that turns a tape back, 0 for none: 60 damaged; "61 any message's kind not below".
+pub fn refusal(t: &[u8]) -> u32
+    ensures { λ r. ⌜ r ≡ tapeRefusal (now (t .entry)) ⌝ }
+{
+    if is_damaged(t) {
+        return 60;
+    }
+    let h = header_of(t);
+    let known = known_kinds(t, h.messageoffset, h.messagecount);
+    if known { 0 } else { 61 }
 }
