@@ -1,2 +1,4 @@
 pub mod KindLaws
+pub mod PartLaws
 pub mod LegLaws
+pub mod StrategyLaws

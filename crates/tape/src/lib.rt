@@ -1,13 +1,15 @@
 // Document 01, "Tape": from bytes to an opening and messages. What is read past the end of a tape is 0.
 ghost use mathlib.Core.Path.{_≡_};
+ghost use Prim.Native.Nat.{min};
 ghost use lib.Dec.{ltb};
 ghost use lib.IntN.{pos};
 ghost use lib.ListN.{drop};
 ghost use Rattle.rules.specs.Basics.{pick};
 ghost use Rattle.rules.specs.Messages.{order};
-ghost use Rattle.rules.specs.Tape.{settingsOf as settingsIn, headerOf as headerIn, usesOf as usesIn, fieldsOf as fieldsIn, usedFields, localOf as localIn, nationalOf as nationalIn, termsOf, changeOf as changeIn, bodyOf as bodyIn, messageOf as messageIn, legSection, messageSection, isMisplaced, overlaps, isDamaged, isKind, knownKinds, tapeRefusal};
+ghost use Rattle.rules.specs.Run.{opening};
+ghost use Rattle.rules.specs.Tape.{settingsOf as settingsIn, headerOf as headerIn, usesOf as usesIn, fieldsOf as fieldsIn, usedFields, localOf as localIn, nationalOf as nationalIn, termsOf, changeOf as changeIn, bodyOf as bodyIn, messageOf as messageIn, legSection, messageSection, isMisplaced, overlaps, isDamaged, isKind, knownKinds, tapeRefusal, strategyOf as strategyIn};
 ghost use Rattle.types.specs.declared.Body.the-variants.{Order as sentOrder};
-ghost use Rattle.types.specs.View.{legOf, settingsOf, localOf, nationalOf, responseTerms, changeOf, bodyOf, messageOf};
+ghost use Rattle.types.specs.View.{legOf, settingsOf, openingOf, localOf, nationalOf, responseTerms, changeOf, bodyOf, messageOf};
 ghost use Rattle.tape.specs.View.{headerOf, usesOf, fieldsOf, bytesIn, legIn, sectionOf};
 use types::Amounts;
 use types::Body;
@@ -20,6 +22,7 @@ use types::National;
 use types::Order;
 use types::Response;
 use types::Settings;
+use types::Strategy;
 
 // ---- header
 
@@ -536,4 +539,53 @@ pub fn refusal(t: &[u8]) -> u32
     let h = header_of(t);
     let known = known_kinds(t, h.messageoffset, h.messagecount);
     if known { 0 } else { 61 }
+}
+
+// ---- parts of the tape
+
+// Where the part that starts at a place of so many bytes begins: at their end at the latest.
+fn start_of(at: usize, bytes: usize) -> usize
+    ensures { λ r. ⌜ r ≡ min at bytes ⌝ }
+{
+    if at < bytes { at } else { bytes }
+}
+
+// The leg at a place: "handed on as the part of the tape that starts at its offset".
+pub fn leg_at(tape: &[u8], at: usize) -> Leg
+    ensures { λ r. ⌜ legOf r ≡ legIn (drop at (now (tape .entry))) ⌝ }
+{
+    let start = start_of(at, tape.len());
+    leg_of(&tape[start..])
+}
+
+// The message at a place.
+pub fn message_at(tape: &[u8], at: usize) -> Message
+    ensures { λ r. ⌜ messageOf r ≡ messageIn (drop at (now (tape .entry))) ⌝ }
+{
+    let start = start_of(at, tape.len());
+    message_of(&tape[start..])
+}
+
+// The opening that a tape holds. With more than four legs, or with legs that the tape is too short for, it is refused as the tape's own is.
+pub fn strategy_of(t: &[u8]) -> Strategy
+    ensures { λ r. ⌜ opening (openingOf r) ≡ opening (strategyIn (now (t .entry))) ⌝ }
+{
+    let h = header_of(t);
+    let size = Section::LEG as usize;
+    let first = h.legoffset as usize;
+    let second = first + size;
+    let third = second + size;
+    let legs = [
+        leg_at(t, first),
+        leg_at(t, second),
+        leg_at(t, third),
+        leg_at(t, third + size),
+    ];
+    let count = h.legcount as usize;
+    let settings = h.settings;
+    Strategy {
+        legs,
+        count,
+        settings,
+    }
 }
