@@ -1,7 +1,7 @@
 -- What the tape's types stand for in the rules.
 use mathlib.Core.List.{List}
-use Prim.Native.Nat.{ℕ}
-use lib.ListN.{getD}
+use Prim.Native.Nat.{ℕ, _+_, min}
+use lib.ListN.{length, getD}
 use Rattle.rules.specs.Strategy as S
 use Rattle.rules.specs.Tape as T
 use Rattle.types.specs.View.{from, settingsOf}
@@ -53,3 +53,7 @@ legIn p = record { symbol = bytesIn 21 p; side = getD p 21 0; ratio = getD p 22 
 -- a section
 abbrev pub sectionOf : Section → T.Section
 sectionOf s = record { start = s .start; size = s .size }
+
+-- the place behind the message record at a place, the tape's end at the latest
+abbrev pub placeAfter : List ℕ → ℕ → ℕ
+placeAfter t at = min (at + T.messageBytes) (length t)

@@ -10,7 +10,7 @@ ghost use Rattle.rules.specs.Run.{opening};
 ghost use Rattle.rules.specs.Tape.{settingsOf as settingsIn, headerOf as headerIn, usesOf as usesIn, fieldsOf as fieldsIn, usedFields, localOf as localIn, nationalOf as nationalIn, termsOf, changeOf as changeIn, bodyOf as bodyIn, messageOf as messageIn, legSection, messageSection, isMisplaced, overlaps, isDamaged, isKind, knownKinds, tapeRefusal, strategyOf as strategyIn};
 ghost use Rattle.types.specs.declared.Body.the-variants.{Order as sentOrder};
 ghost use Rattle.types.specs.View.{legOf, settingsOf, openingOf, localOf, nationalOf, responseTerms, changeOf, bodyOf, messageOf};
-ghost use Rattle.tape.specs.View.{headerOf, usesOf, fieldsOf, bytesIn, legIn, sectionOf};
+ghost use Rattle.tape.specs.View.{headerOf, usesOf, fieldsOf, bytesIn, legIn, sectionOf, placeAfter};
 use types::Amounts;
 use types::Body;
 use types::Cancel;
@@ -588,4 +588,62 @@ pub fn strategy_of(t: &[u8]) -> Strategy
         count,
         settings,
     }
+}
+
+// ---- the reader
+
+// "The tape reader carries the tape with its position from record to record."
+pub struct TapeReader<'a> {
+    pub tape: &'a [u8],
+    pub at: usize,
+}
+
+// A message, and the place behind its record.
+pub struct Taken {
+    pub message: Message,
+    pub next: usize,
+}
+
+// The place behind the message record at a place, the tape's end at the latest.
+fn place_after(tape: &[u8], at: usize) -> usize
+    ensures { λ r. ⌜ r ≡ placeAfter (now (tape .entry)) at ⌝ }
+{
+    let size = Section::MESSAGE as usize;
+    let bytes = tape.len();
+    let start = start_of(at, bytes);
+    if size <= bytes - start {
+        return start + size;
+    }
+    bytes
+}
+
+// The message at the reader's place.
+pub fn current<'a>(r: TapeReader<'a>) -> Message
+    ensures { λ m. ⌜ messageOf m ≡ messageIn (drop (r .entry .at) (now (r .entry .tape))) ⌝ }
+{
+    message_at(r.tape, r.at)
+}
+
+// The same tape, behind that message.
+pub fn after<'a>(r: TapeReader<'a>) -> TapeReader<'a>
+    ensures { λ q. ⌜ (q .tape ≡ r .entry .tape) × (q .at ≡ placeAfter (now (r .entry .tape)) (r .entry .at)) ⌝ }
+{
+    let at = place_after(r.tape, r.at);
+    TapeReader { tape: r.tape, at }
+}
+
+fn with_next(message: Message, next: usize) -> Taken
+    ensures { λ r. ⌜ (r .message ≡ message) × (r .next ≡ next) ⌝ }
+{
+    Taken { message, next }
+}
+
+// The message at a place, and the place behind it.
+pub fn take_message(tape: &[u8], at: usize) -> Taken
+    ensures { λ r. ⌜ (messageOf (r .message) ≡ messageIn (drop at (now (tape .entry)))) × (r .next ≡ placeAfter (now (tape .entry)) at) ⌝ }
+{
+    let r = TapeReader { tape, at };
+    let message = current(r);
+    let next = after(r);
+    with_next(message, next.at)
 }
