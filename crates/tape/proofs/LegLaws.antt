@@ -10,9 +10,10 @@ use borrow.Author.Tests.{ne-eqb}
 use lib.ListN.{length, getD, take, drop, set, length-take, List·getD-eq-default}
 use lib.Seq.{take-suc, take-suc-set}
 use Rattle.rules.specs.Series.{allBytes, isDigit, goodStrike, goodSymbol}
+use Rattle.rules.specs.Tape.{legOf}
 use Rattle.types.specs.View.{upto}
 use Rattle.types.proofs.TableLaws.{from-end, from-last}
-use Rattle.tape.specs.View.{bytesIn}
+use Rattle.tape.specs.View.{bytesIn, legIn}
 
 -- one byte more
 pub bytes-more : (s p : List ℕ) (i : ℕ) → i < length s → take i s ≡ bytesIn i p → take (i + 1) (set s i (getD p i 0)) ≡ bytesIn (i + 1) p
@@ -21,11 +22,14 @@ bytes-more s p i h e =
     ∙ sym (from-last (λ k. getD p k 0) i)
 
 -- a part that is long enough
-pub bytes-take : (n : ℕ) (p : List ℕ) → n ≤ length p → bytesIn n p ≡ take n p
+bytes-take : (n : ℕ) (p : List ℕ) → n ≤ length p → bytesIn n p ≡ take n p
 bytes-take zero p h = from-end (λ k. getD p k 0) 0 0 (omega arith)
 bytes-take (suc n) p h =
     ap (λ (k : ℕ). bytesIn k p) (sym (add-one n)) ∙ from-last (λ k. getD p k 0) n ∙ ap (λ (l : List ℕ). l ++ (getD p n 0 ∷ [])) (bytes-take n p (omega arith))
     ∙ sym (take-suc p n 0 (omega arith))
+
+pub leg-is : (p : List ℕ) → 21 ≤ length p → legIn p ≡ legOf p
+leg-is p h = rw (bytes-take 21 p h)
 
 -- ---- a part that is too short
 

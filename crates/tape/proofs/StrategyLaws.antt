@@ -17,8 +17,8 @@ use Rattle.rules.specs.Tape.{Header, headerOf, legBytes, legOf, legsFrom, strat
 use Rattle.rules.proofs.TestLaws.{and-left, and-right}
 use Rattle.types.specs.View.{upto, from}
 use Rattle.types.proofs.TableLaws.{from-length}
-use Rattle.tape.specs.View.{bytesIn, legIn}
-use Rattle.tape.proofs.LegLaws.{bytes-take, and-none, short-taken, symbol-good}
+use Rattle.tape.specs.View.{legIn}
+use Rattle.tape.proofs.LegLaws.{leg-is, and-none, short-taken, symbol-good}
 
 -- ---- refused openings
 
@@ -54,7 +54,7 @@ as-well-formed (suc n) p = rw (symbol-good p, as-well-formed n (drop legBytes p)
 same-leg : (p : List ℕ) → goodSymbol (take 21 p) ≡ true → legIn p ≡ legOf p
 same-leg p e =
     elim (decLe 21 (length p)) [
-      | yes h ↦ rw (bytes-take 21 p h)
+      | yes h ↦ leg-is p h
       | no h ↦ absurd (true≢false (sym e ∙ short-taken p (omega arith)))
     ]
 

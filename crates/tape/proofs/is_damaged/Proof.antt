@@ -1,5 +1,4 @@
 use mathlib.Core.Path.{ap, _∙_}
-use Prim.Native.Nat.{ℕ}
 use lib.ListN.{length}
 use Rattle.rules.specs.Tape.{Section, headerOf, legSection, messageSection, isMisplaced, overlaps}
 use Rattle.tape.specs.View.{sectionOf}

@@ -1,4 +1,3 @@
-use Rattle.types.specs.View.{legOf, noLeg}
 use Rattle.tape.specs.View.{headerOf}
 use Rattle.tape.proofs.StrategyLaws.{tape-opening}
 use borrow.Author.Needs.{needs}
