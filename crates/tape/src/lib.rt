@@ -42,7 +42,7 @@ impl Header {
     pub const MOST_TAPE: usize = 65_535;
 }
 
-// "amounts for MPV 1, 5, 10; 32-bit minimum; 64-bit first number; 64-bit opening time".
+// "interval, distance, most legs, amounts for MPV 1, 5, 10; 32-bit minimum; 64-bit first number; 64-bit opening time".
 fn settings_of(t: &[u8]) -> Settings
     ensures { λ r. ⌜ settingsOf r ≡ settingsIn (now (t .entry)) ⌝ }
 {
@@ -89,6 +89,12 @@ pub struct Uses {
     pub price: bool,
     pub ask: bool,
     pub asksize: bool,
+}
+
+impl Uses {
+    pub const LEAST_KIND: u8 = 1;
+
+    pub const MOST_KIND: u8 = 7;
 }
 
 // "1 adds leg, bid size, bid, ask, ask size".
@@ -182,12 +188,6 @@ const CLOCK: Uses = Uses {
     asksize: false,
 };
 
-impl Uses {
-    pub const LEAST_KIND: u8 = 1;
-
-    pub const MOST_KIND: u8 = 7;
-}
-
 // "A table of seven rows says which fields each kind uses".
 const KINDS: [Uses; 7] = [LOCAL, NATIONAL, ORDER, RESPONSE, MODIFY, CANCEL, CLOCK];
 
@@ -200,7 +200,7 @@ pub fn uses_of(kind: u8) -> Uses
         return rows[0];
     }
     if kind <= Uses::MOST_KIND {
-        return rows[(kind - 1) as usize];
+        return rows[(kind - Uses::LEAST_KIND) as usize];
     }
     CLOCK
 }
@@ -632,6 +632,7 @@ pub fn after<'a>(r: TapeReader<'a>) -> TapeReader<'a>
     TapeReader { tape: r.tape, at }
 }
 
+// What is taken, as a pair.
 fn with_next(message: Message, next: usize) -> Taken
     ensures { λ r. ⌜ (r .message ≡ message) × (r .next ≡ next) ⌝ }
 {
