@@ -1,5 +1,6 @@
 -- The work of a message: what it gives still, and what it comes to.
 use mathlib.Core.Path.{_≡_}
+use mathlib.Core.Bool.{false}
 use mathlib.Core.List.{List, [], _∷_}
 use Prim.Native.Nat.{ℕ, _+_, _≤_, _<_, min}
 use lib.Dec.{eqb}
@@ -66,13 +67,15 @@ pub record Starts (s : Held) (m : Message) (room : ℕ) (w : Work) : Type 0 wher
   pub refused : 0 < refusal (stateOf s) (messageOf m) room → (w .more ≡ 0) × (w .phases .state ≡ s)
   pub ready : Ready w
 
--- the work of a refused message
+-- the work of a refused message: it has no turns
 pub record IsRefused (s : Held) (number : ℕ) (w : Work) : Type 0 where
   pub goes : R.Goes (still (stateOf s)) (w .phases)
   pub kept : w .phases .state ≡ s
   pub none : w .more ≡ 0
   pub refusal : w .number ≡ number
   pub given : w .given ≡ 0
+  pub act : w .act ≡ 0
+  pub order : w .subject .order ≡ false
 
 -- the work of another, whose number and time are not above the greatest
 pub record IsAccepted (s : Held) (m : Message) (w : Work) : Type 0 where

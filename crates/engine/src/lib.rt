@@ -101,8 +101,8 @@ fn more_of(w: Phases) -> u64
     0
 }
 
-// The work of a message that is refused.
-fn refused(s: State, number: u32) -> Work
+// The work of a message that is refused; with number 0, of one that does nothing.
+pub fn refused(s: State, number: u32) -> Work
     ensures { λ r. ⌜ IsRefused s number r ⌝ }
 {
     let phases = phases::quiet(s);
