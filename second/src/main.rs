@@ -2,22 +2,25 @@
 
 use second::explain::explain;
 use second::gen::{gen, PROFILES};
+use second::live::{live, live_input};
 use second::print::tapeprint;
-use second::tape::Tape;
+use second::tape::{Misfit, Tape};
 use second::text::{dump, make};
-use std::ffi::OsString;
+use std::ffi::{OsStr, OsString};
 use std::fs::File;
 use std::io::{self, Read, Write};
 use std::process::ExitCode;
 
 const USAGE: &str = "\
 usage: second COMMAND
-  tapeprint [TAPE]   fills, refusals and what is left open
-  make [TEXT]        the tape of a session in text
-  dump [TAPE]        the text of a tape
-  explain [TAPE]     a tape told message by message
-  gen PROFILE SEED   a random tape
-  gen --list         the profiles
+  tapeprint [TAPE]    fills, refusals and what is left open
+  make [TEXT]         the tape of a session in text
+  dump [TAPE]         the text of a tape
+  explain [TAPE]      a tape told message by message
+  gen PROFILE SEED    a random tape
+  gen --list          the profiles
+  live                answers the opening and each message on standard input at once
+  live-input [TAPE]   a tape's session as live reads it
 A file left out is standard input.
 ";
 
@@ -36,7 +39,7 @@ fn main() -> ExitCode {
     }
 }
 
-/// What the command prints.
+/// What the command prints; `live` prints as it goes.
 fn run(arguments: &[OsString]) -> Result<Vec<u8>, String> {
     let Some((command, rest)) = arguments.split_first() else {
         return Err(format!("no command\n{}", USAGE.trim_end()));
@@ -46,9 +49,11 @@ fn run(arguments: &[OsString]) -> Result<Vec<u8>, String> {
         Some("make") => make(&read_text(rest)?).map_err(|error| error.to_string()),
         Some("dump") => dump(&read_tape(rest)?)
             .map(String::into_bytes)
-            .map_err(|misfit| format!("refused 60: {misfit}")),
+            .map_err(refused_60),
         Some("explain") => Ok(explain(&read_tape(rest)?).into_bytes()),
         Some("gen") => gen_command(rest),
+        Some("live") => live_command(rest).map(|()| Vec::new()),
+        Some("live-input") => live_input(&read_tape(rest)?).map_err(refused_60),
         Some("help" | "--help" | "-h") => Ok(USAGE.as_bytes().to_vec()),
         _ => Err(format!(
             "no such command: {}\n{}",
@@ -56,6 +61,21 @@ fn run(arguments: &[OsString]) -> Result<Vec<u8>, String> {
             USAGE.trim_end()
         )),
     }
+}
+
+fn refused_60(misfit: Misfit) -> String {
+    format!("refused 60: {misfit}")
+}
+
+fn live_command(arguments: &[OsString]) -> Result<(), String> {
+    match arguments {
+        [] => live(io::stdin().lock(), io::stdout().lock()),
+        [more, ..] => Err(one_too_many(more)),
+    }
+}
+
+fn one_too_many(argument: &OsStr) -> String {
+    format!("one argument too many: {}", argument.to_string_lossy())
 }
 
 fn gen_command(arguments: &[OsString]) -> Result<Vec<u8>, String> {
@@ -101,7 +121,7 @@ fn read(arguments: &[OsString], most: usize) -> Result<Vec<u8>, String> {
         [path] => File::open(path)
             .and_then(|file| file.take(most as u64).read_to_end(&mut bytes))
             .map_err(|error| format!("cannot read {}: {error}", path.to_string_lossy()))?,
-        [_, more, ..] => return Err(format!("one argument too many: {}", more.to_string_lossy())),
+        [_, more, ..] => return Err(one_too_many(more)),
     };
     Ok(bytes)
 }

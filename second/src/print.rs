@@ -34,7 +34,8 @@ pub fn contra_number(contra: Contra) -> u32 {
     }
 }
 
-fn fill_line(fill: &Fill) -> String {
+/// A fill's six values.
+pub fn fill_line(fill: &Fill) -> String {
     format!(
         "{} {} {} {} {} {}\n",
         fill.number,

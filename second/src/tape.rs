@@ -134,7 +134,7 @@ fn u64_at(record: &[u8], place: usize) -> u64 {
 impl Header {
     pub const BYTES: usize = 40;
 
-    fn read(tape: &[u8]) -> Header {
+    pub fn read(tape: &[u8]) -> Header {
         let [leg_count, leg_offset, message_count, message_offset] =
             [0, 2, 4, 6].map(|place| u16_at(tape, place));
         Header {
@@ -180,7 +180,7 @@ impl Leg {
     /// "Legs are 24 bytes: symbol, side, ratio, MPV."
     pub const BYTES: usize = 24;
 
-    fn read(record: &[u8]) -> Leg {
+    pub fn read(record: &[u8]) -> Leg {
         Leg {
             symbol: part(record, 0),
             side: record[Leg::SYMBOL],
@@ -369,21 +369,30 @@ impl<'a> Tape<'a> {
             .find(|&(_, kind)| Kind::of_number(kind).is_none())
     }
 
+    pub fn header_bytes(&self) -> &'a [u8] {
+        &self.bytes[..Header::BYTES]
+    }
+
+    pub fn leg_bytes(&self) -> &'a [u8] {
+        let header = &self.header;
+        self.section_bytes(section(header.leg_offset, header.leg_count, Leg::BYTES))
+    }
+
+    pub fn record_bytes(&self) -> &'a [u8] {
+        let header = &self.header;
+        self.section_bytes(section(
+            header.message_offset,
+            header.message_count,
+            Record::BYTES,
+        ))
+    }
+
     pub fn legs(&self) -> impl Iterator<Item = Leg> + 'a {
-        let (from, to) = section(self.header.leg_offset, self.header.leg_count, Leg::BYTES);
-        self.section_bytes(from, to)
-            .chunks_exact(Leg::BYTES)
-            .map(Leg::read)
+        self.leg_bytes().chunks_exact(Leg::BYTES).map(Leg::read)
     }
 
     pub fn records(&self) -> impl Iterator<Item = Record> + 'a {
-        let Header {
-            message_offset,
-            message_count,
-            ..
-        } = self.header;
-        let (from, to) = section(message_offset, message_count, Record::BYTES);
-        self.section_bytes(from, to)
+        self.record_bytes()
             .chunks_exact(Record::BYTES)
             .map(Record::read)
     }
@@ -393,7 +402,7 @@ impl<'a> Tape<'a> {
     }
 
     /// An empty section may stand anywhere, also past the end.
-    fn section_bytes(&self, from: usize, to: usize) -> &'a [u8] {
+    fn section_bytes(&self, (from, to): (usize, usize)) -> &'a [u8] {
         self.bytes.get(from..to).unwrap_or(&[])
     }
 }

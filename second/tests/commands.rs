@@ -1,6 +1,6 @@
 //! The binary itself: its commands, their standard streams and their statuses.
 
-use std::io::Write;
+use std::io::{BufRead, BufReader, Write};
 use std::process::{Command, Output, Stdio};
 
 fn second(arguments: &[&str], input: &[u8]) -> Output {
@@ -41,6 +41,56 @@ fn the_own_case_goes_through_all_commands() {
     let told = String::from_utf8(output(&["explain"], &tape)).unwrap();
     assert!(told.contains("refused 50: no open order 9 of participant 1"));
     assert!(told.contains("fill: 5 units at 100 with 7, rank R"));
+}
+
+/// Each answer is there before the next message is, and before the input ends.
+#[test]
+fn live_answers_at_once() {
+    let mut child = Command::new(env!("CARGO_BIN_EXE_second"))
+        .arg("live")
+        .stdin(Stdio::piped())
+        .stdout(Stdio::piped())
+        .spawn()
+        .unwrap();
+    let mut input = child.stdin.take().unwrap();
+    let mut answers = BufReader::new(child.stdout.take().unwrap()).lines();
+    let tape = output(&["make", &own_case()], b"");
+    let (opening, records) = tape.split_at(40 + 2 * 24);
+    let parts = [
+        (opening, &["opened"][..]),
+        (&records[..36], &["noted 0"]),
+        (&records[36..72], &["noted 0"]),
+        (&records[72..108], &["placed 10 0"]),
+        (
+            &records[108..144],
+            &["placed 0 2", "4 8 L 0 100 10", "4 8 R 7 100 5"],
+        ),
+        (&[8; 36], &["refused 61"]),
+        (&records[144..], &["refused 50"]),
+    ];
+    for (part, lines) in parts {
+        for piece in part.chunks(13) {
+            input.write_all(piece).unwrap();
+        }
+        for line in lines {
+            assert_eq!(&answers.next().unwrap().unwrap(), line);
+        }
+    }
+    input.write_all(&[7]).unwrap();
+    drop(input);
+    assert_eq!(answers.next().unwrap().unwrap(), "incomplete");
+    assert!(answers.next().is_none());
+    assert!(child.wait().unwrap().success());
+}
+
+#[test]
+fn live_ends_with_success_whatever_it_reads() {
+    assert_eq!(output(&["live"], b""), b"incomplete\n");
+    assert_eq!(output(&["live"], &[0; 40]), b"refused 1\n");
+    assert_eq!(output(&["live"], &[1; 40]), b"incomplete\n");
+    let tape = output(&["make", &own_case()], b"");
+    assert_eq!(output(&["live"], &tape[..88]), b"opened\n");
+    assert_eq!(output(&["live-input"], &tape), tape);
 }
 
 #[test]
@@ -84,6 +134,12 @@ fn what_is_wrong_stands_on_standard_error() {
         b"short",
         "refused 60: the tape is under 40 bytes",
     );
+    fails(
+        &["live-input"],
+        &[255; 40],
+        "refused 60: the legs run past the end",
+    );
+    fails(&["live", "a"], b"", "one argument too many: a");
     fails(&["make"], b"interval 5\nnonsense 1\n", "line 2: `nonsense`");
     fails(&["make"], b"\xff\xfe", "line 1: ");
     fails(&["gen"], b"", "gen wants a profile and a seed");
