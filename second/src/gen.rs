@@ -117,11 +117,18 @@ pub const PROFILES: [Profile; 28] = [
     profile("wrong", "refused messages of every number", sessions::wrong),
 ];
 
+impl Profile {
+    /// The profile's tape of a seed.
+    pub fn tape(&self, seed: u64) -> Vec<u8> {
+        // Profiles get different tapes from the same seed.
+        let mix_in = |hash: u64, byte: u8| hash.wrapping_mul(131).wrapping_add(u64::from(byte));
+        let start = self.name.bytes().fold(seed, mix_in);
+        (self.write)(&mut Random::new(start))
+    }
+}
+
 /// The tape of a profile and a seed; `None` if there is no such profile.
 pub fn gen(name: &str, seed: u64) -> Option<Vec<u8>> {
     let profile = PROFILES.iter().find(|profile| profile.name == name)?;
-    // Profiles get different tapes from the same seed.
-    let mix_in = |hash: u64, byte: u8| hash.wrapping_mul(131).wrapping_add(u64::from(byte));
-    let start = name.bytes().fold(seed, mix_in);
-    Some((profile.write)(&mut Random::new(start)))
+    Some(profile.tape(seed))
 }

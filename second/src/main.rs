@@ -1,7 +1,10 @@
 //! The second program's commands: what they read, what they write, and how they fail.
 
+mod compare;
+
+use compare::{compare, Twin};
 use second::explain::explain;
-use second::gen::{gen, PROFILES};
+use second::gen::{gen, Profile, PROFILES};
 use second::live::{live, live_input};
 use second::print::tapeprint;
 use second::tape::{Misfit, Tape};
@@ -21,6 +24,9 @@ usage: second COMMAND
   gen --list          the profiles
   live                answers the opening and each message on standard input at once
   live-input [TAPE]   a tape's session as live reads it
+  compare [--live] COMMAND PROFILE FIRST-SEED COUNT
+                      runs a command on random tapes: it must print what tapeprint does,
+                      or live; COUNT tapes of the profile, or of each if it is `all`
 A file left out is standard input.
 ";
 
@@ -53,6 +59,7 @@ fn run(arguments: &[OsString]) -> Result<Vec<u8>, String> {
         Some("explain") => Ok(explain(&read_tape(rest)?).into_bytes()),
         Some("gen") => gen_command(rest),
         Some("live") => live_command(rest).map(|()| Vec::new()),
+        Some("compare") => compare_command(rest),
         Some("live-input") => live_input(&read_tape(rest)?).map_err(refused_60),
         Some("help" | "--help" | "-h") => Ok(USAGE.as_bytes().to_vec()),
         _ => Err(format!(
@@ -84,10 +91,42 @@ fn gen_command(arguments: &[OsString]) -> Result<Vec<u8>, String> {
         ["--list"] => Ok(profile_list().into_bytes()),
         [name, seed] => {
             let seed = seed.parse().map_err(|_| format!("not a seed: {seed}"))?;
-            gen(name, seed).ok_or(format!("no such profile: {name} (gen --list has them)"))
+            gen(name, seed).ok_or(no_such_profile(name))
         }
         _ => Err("gen wants a profile and a seed, or --list".into()),
     }
+}
+
+fn compare_command(arguments: &[OsString]) -> Result<Vec<u8>, String> {
+    let (twin, rest) = match arguments {
+        [flag, rest @ ..] if flag == "--live" => (Twin::Live, rest),
+        _ => (Twin::Tapeprint, arguments),
+    };
+    let [command, profile, first, count] = rest else {
+        return Err("compare wants a command, a profile or `all`, a first seed and a count".into());
+    };
+    let first: u64 = number(first, "seed")?;
+    let count: u64 = number(count, "count")?;
+    let after = first.checked_add(count).ok_or("the seeds run too far")?;
+    let profiles: Vec<&Profile> = PROFILES
+        .iter()
+        .filter(|each| profile == "all" || profile == each.name)
+        .collect();
+    if profiles.is_empty() {
+        return Err(no_such_profile(&profile.to_string_lossy()));
+    }
+    let tapes = compare(twin, command, profiles, first..after)?;
+    Ok(format!("{tapes} tapes compared\n").into_bytes())
+}
+
+/// The number that an argument says.
+fn number(argument: &OsStr, what: &str) -> Result<u64, String> {
+    let number = argument.to_str().and_then(|word| word.parse().ok());
+    number.ok_or(format!("not a {what}: {}", argument.to_string_lossy()))
+}
+
+fn no_such_profile(name: &str) -> String {
+    format!("no such profile: {name} (gen --list has them)")
 }
 
 fn profile_list() -> String {
