@@ -1,0 +1,4 @@
+pub mod Ascii
+pub mod Text
+pub mod Places
+pub mod OwnCase

@@ -1,0 +1,17 @@
+-- A buffer of 128 bytes, in which bytes are written from a place on.
+use mathlib.Core.Path.{_≡_}
+use mathlib.Core.List.{List, _++_}
+use Prim.Native.Nat.{ℕ, _+_, _≤_}
+use lib.ListN.{length, drop}
+use lib.Seq.{sets}
+use Rattle.rules.specs.Print.{Line}
+use Rattle.text.specs.Text.{lineText}
+
+-- the buffer l became m when these bytes were written from a place on, and r is the place behind them
+pub record Wrote (bytes : List ℕ) (at : ℕ) (l : List ℕ) (r : ℕ) (m : List ℕ) : Type 0 where
+  pub end : r ≡ at + length bytes
+  pub holds : m ≡ sets l at bytes
+
+-- the buffer m is a line's bytes and then those of the buffer l behind them, and r is the line's length, for which there is room
+abbrev pub Printed : Line → List ℕ → ℕ → List ℕ → Type 0
+Printed line l r m = (r ≡ length (lineText line)) × (m ≡ lineText line ++ drop (length (lineText line)) l) × (r ≤ 128) × (length m ≡ 128)

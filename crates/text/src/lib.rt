@@ -1,0 +1,204 @@
+// Document 01, "Tape": the bytes of an output line, written at the start of a lent buffer.
+ghost use mathlib.Core.Path.{_≡_};
+ghost use mathlib.Core.List.{[], _∷_};
+ghost use Prim.Native.Nat.{_+_, _<_, _≤_};
+ghost use lib.IntN.{pos, natAbs};
+ghost use lib.ListN.{length};
+ghost use lib.Signed.{ltZ};
+ghost use Rattle.rules.specs.Print.{titleLine, fillLine, refusedLine, lastLine};
+ghost use Rattle.types.specs.View.{rankOf, contraOf, fillOf};
+ghost use Rattle.text.specs.Text.{digit, digits, signedDigits, rankLetter, contraNumber};
+ghost use Rattle.text.specs.Places.{Wrote, Printed};
+ghost use Rattle.text.specs.OwnCase.{OwnCaseText};
+use types::Contra;
+use types::Fill;
+use types::Rank;
+
+// The own case's five lines are the bytes that document 01 shows.
+pub fn own_case_text()
+    ensures { λ _. ⌜ OwnCaseText ⌝ }
+{}
+
+// ---- from a place on
+
+fn put_byte(out: &mut [u8; 128], at: usize, b: u8) -> usize
+    requires { ⌜ (length (now out) ≡ 128) × (at < 128) ⌝ }
+    ensures { λ r. ⌜ Wrote (b ∷ []) at (now (out .entry)) r (now (out .exit)) × (length (now (out .exit)) ≡ 128) × (r ≤ at + 1) ⌝ }
+{
+    out[at] = b;
+    at + 1
+}
+
+fn put_word(out: &mut [u8; 128], at: usize, word: &[u8]) -> usize
+    requires { ⌜ (length (now out) ≡ 128) × (at + length (now word) ≤ 128) ⌝ }
+    ensures { λ r. ⌜ Wrote (now (word .entry)) at (now (out .entry)) r (now (out .exit)) × (length (now (out .exit)) ≡ 128) ⌝ }
+{
+    let n = word.len();
+    let mut i = 0;
+    while i < n {
+        out[at + i] = word[i];
+        i += 1;
+    }
+    at + n
+}
+
+// The digit of a number below 10.
+fn put_digit(out: &mut [u8; 128], at: usize, n: u64) -> usize
+    requires { ⌜ (length (now out) ≡ 128) × (at < 128) × (n < 10) ⌝ }
+    ensures { λ r. ⌜ Wrote (digit n ∷ []) at (now (out .entry)) r (now (out .exit)) × (length (now (out .exit)) ≡ 128) ⌝ }
+{
+    put_byte(out, at, b'0' + (n as u8))
+}
+
+// The digits of a number, the last one last.
+fn put_digits(out: &mut [u8; 128], at: usize, n: u64) -> usize
+    requires { ⌜ (length (now out) ≡ 128) × (at + length (digits n) ≤ 128) ⌝ }
+    ensures { λ r. ⌜ Wrote (digits n) at (now (out .entry)) r (now (out .exit)) × (length (now (out .exit)) ≡ 128) ⌝ }
+{
+    if n < 10 {
+        return put_digit(out, at, n);
+    }
+    let end = put_digits(out, at, n / 10);
+    put_digit(out, end, n % 10)
+}
+
+// The digits of a number, of which there are at most 20.
+fn put_number(out: &mut [u8; 128], at: usize, n: u64) -> usize
+    requires { ⌜ (length (now out) ≡ 128) × (at ≤ 108) ⌝ }
+    ensures { λ r. ⌜ Wrote (digits n) at (now (out .entry)) r (now (out .exit)) × (length (now (out .exit)) ≡ 128) × (r ≤ at + 20) ⌝ }
+{
+    put_digits(out, at, n)
+}
+
+// A number behind a space.
+fn put_next(out: &mut [u8; 128], at: usize, n: u64) -> usize
+    requires { ⌜ (length (now out) ≡ 128) × (at ≤ 107) ⌝ }
+    ensures { λ r. ⌜ Wrote (32 ∷ digits n) at (now (out .entry)) r (now (out .exit)) × (length (now (out .exit)) ≡ 128) × (r ≤ at + 21) ⌝ }
+{
+    let at = put_byte(out, at, b' ');
+    put_number(out, at, n)
+}
+
+// ---- signed
+
+// Whether a number has a minus sign.
+fn is_negative(v: i64) -> bool
+    ensures { λ r. ⌜ r ≡ ltZ v (pos 0) ⌝ }
+{
+    v < 0
+}
+
+// The distance from zero.
+fn size_of(v: i64) -> u64
+    ensures { λ r. ⌜ r ≡ natAbs v ⌝ }
+{
+    if v < 0 {
+        ((-1 - v) as u64) + 1
+    } else {
+        v as u64
+    }
+}
+
+// A signed number behind a space.
+fn put_signed(out: &mut [u8; 128], at: usize, v: i64) -> usize
+    requires { ⌜ (length (now out) ≡ 128) × (at ≤ 106) ⌝ }
+    ensures { λ r. ⌜ Wrote (32 ∷ signedDigits v) at (now (out .entry)) r (now (out .exit)) × (length (now (out .exit)) ≡ 128) × (r ≤ at + 22) ⌝ }
+{
+    let n = size_of(v);
+    let at = put_byte(out, at, b' ');
+    if is_negative(v) {
+        let at = put_byte(out, at, b'-');
+        return put_number(out, at, n);
+    }
+    put_number(out, at, n)
+}
+
+// ---- the values of a record
+
+fn letter_of(rank: Rank) -> u8
+    ensures { λ r. ⌜ r ≡ rankLetter (rankOf rank) ⌝ }
+{
+    match rank {
+        Rank::L => b'L',
+        Rank::C => b'C',
+        Rank::N => b'N',
+        Rank::T => b'T',
+        Rank::R => b'R',
+    }
+}
+
+// A rank's letter behind a space.
+fn put_rank(out: &mut [u8; 128], at: usize, rank: Rank) -> usize
+    requires { ⌜ (length (now out) ≡ 128) × (at ≤ 126) ⌝ }
+    ensures { λ r. ⌜ Wrote (32 ∷ rankLetter (rankOf rank) ∷ []) at (now (out .entry)) r (now (out .exit)) × (length (now (out .exit)) ≡ 128) × (r ≤ at + 2) ⌝ }
+{
+    let at = put_byte(out, at, b' ');
+    put_byte(out, at, letter_of(rank))
+}
+
+// "contra 0 is the legs".
+fn contra_number(contra: Contra) -> u32
+    ensures { λ r. ⌜ r ≡ contraNumber (contraOf contra) ⌝ }
+{
+    match contra {
+        Contra::Legs => 0,
+        Contra::Entry(id) => id,
+    }
+}
+
+// A contra's number behind a space.
+fn put_contra(out: &mut [u8; 128], at: usize, contra: Contra) -> usize
+    requires { ⌜ (length (now out) ≡ 128) × (at ≤ 107) ⌝ }
+    ensures { λ r. ⌜ Wrote (32 ∷ digits (contraNumber (contraOf contra))) at (now (out .entry)) r (now (out .exit)) × (length (now (out .exit)) ≡ 128) × (r ≤ at + 21) ⌝ }
+{
+    put_next(out, at, contra_number(contra) as u64)
+}
+
+// ---- the lines
+
+// The title line.
+pub fn put_title(out: &mut [u8; 128]) -> usize
+    requires { ⌜ length (now out) ≡ 128 ⌝ }
+    ensures { λ r. ⌜ Printed titleLine (now (out .entry)) r (now (out .exit)) ⌝ }
+{
+    put_word(out, 0, b"number order rank contra price units\n")
+}
+
+// A record.
+pub fn put_fill(out: &mut [u8; 128], f: Fill) -> usize
+    requires { ⌜ length (now out) ≡ 128 ⌝ }
+    ensures { λ r. ⌜ Printed (fillLine (fillOf f)) (now (out .entry)) r (now (out .exit)) ⌝ }
+{
+    let rank = f.rank;
+    let contra = f.contra;
+    let at = put_number(out, 0, f.number);
+    let at = put_next(out, at, f.order as u64);
+    let at = put_rank(out, at, rank);
+    let at = put_contra(out, at, contra);
+    let at = put_signed(out, at, f.price);
+    let at = put_next(out, at, f.units as u64);
+    put_byte(out, at, b'\n')
+}
+
+// "A refused line gives the tape position from 1, then the number".
+pub fn put_refused(out: &mut [u8; 128], position: u64, number: u32) -> usize
+    requires { ⌜ length (now out) ≡ 128 ⌝ }
+    ensures { λ r. ⌜ Printed (refusedLine position number) (now (out .entry)) r (now (out .exit)) ⌝ }
+{
+    let at = put_word(out, 0, b"refused");
+    let at = put_next(out, at, position);
+    let at = put_next(out, at, number as u64);
+    put_byte(out, at, b'\n')
+}
+
+// "the last line counts open orders and responses".
+pub fn put_last(out: &mut [u8; 128], orders: u64, answers: u64) -> usize
+    requires { ⌜ length (now out) ≡ 128 ⌝ }
+    ensures { λ r. ⌜ Printed (lastLine orders answers) (now (out .entry)) r (now (out .exit)) ⌝ }
+{
+    let at = put_word(out, 0, b"open");
+    let at = put_next(out, at, orders);
+    let at = put_word(out, at, b" answers");
+    let at = put_next(out, at, answers);
+    put_byte(out, at, b'\n')
+}
