@@ -1,6 +1,8 @@
 // Document 01, "Tape": what tapeprint prints, line by line through a buffer.
 ghost use mathlib.Core.Path.{_≡_};
+ghost use Prim.Native.Nat.{_+_, min};
 ghost use lib.ListN.{length};
+ghost use Rattle.rules.specs.Print.{linesOf};
 ghost use Rattle.session.specs.Lines.{lineOf};
 ghost use Rattle.text.specs.Places.{Printed};
 use libc::STDOUT_FILENO;
@@ -27,11 +29,26 @@ fn print_line(l: Line) {
     io::write_all(STDOUT_FILENO, &out[..n]);
 }
 
-// Every line of a tape.
-pub fn print_tape(tape: &[u8]) {
+// One line more.
+fn one_more(n: u64) -> u64
+    ensures { λ r. ⌜ r ≡ min (n + 1) 1000000000 ⌝ }
+{
+    if n < 1_000_000_000 {
+        return n + 1;
+    }
+    1_000_000_000
+}
+
+// Every line of a tape, and how many there are, a thousand million at most.
+pub fn print_tape(tape: &[u8]) -> u64
+    ensures { λ r. ⌜ r ≡ min (length (linesOf (now (tape .entry)))) 1000000000 ⌝ }
+{
+    let mut lines: u64 = 0;
     let mut s = session::begin(tape);
     while s.stage < Session::OVER {
         print_line(session::current(s));
         s = session::next(tape, s);
+        lines = one_more(lines);
     }
+    lines
 }
