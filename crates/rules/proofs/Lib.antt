@@ -8,7 +8,7 @@ pub mod SignedLaws
 pub mod BestLaws
 pub mod RecordLaws
 pub mod RowLaws
-pub mod Invariant
+pub mod EntryLaws
 pub mod MarketLaws
 pub mod ExecuteCases
 pub mod ExecuteLaws
@@ -16,7 +16,9 @@ pub mod SilentLaws
 pub mod ServeLaws
 pub mod ClaimLaws
 pub mod IntakeLaws
+pub mod CrossLaws
 pub mod RunLaws
+pub mod ReachedLaws
 pub mod CountLaws
 pub mod BoundLaws
 pub mod RoomLaws

@@ -3,25 +3,26 @@ use mathlib.Core.Path.{_≡_, refl, ap, _∙_, sym, subst}
 use mathlib.Core.Bool.{Bool, true, false, _&&_, _||_, not, true≢false}
 use mathlib.Core.List.{List, [], _∷_, _++_}
 use Prim.Native.Nat.{ℕ, _+_, _-_, _≤_, _<_}
-use native.Mathlib.Decide.{ℕ-discrete, decLe}
+use native.Mathlib.Decide.{ℕ-discrete}
 use native.Mathlib.Omega.{arith}
-use borrow.Author.Tests.{eq-eqb, ne-eqb, le-leb}
+use borrow.Author.Tests.{eq-eqb, ne-eqb}
 use lib.ListN.{length}
-use lib.Dec.{eqb, leb, ltb}
+use lib.Dec.{eqb, ltb}
 use Rattle.rules.specs.Basics.{firstOf}
 use Rattle.rules.specs.Book.{Stage, held, live, queued, answer, isHeld, isLive, isQueued, isResponse, mostOrders, mostResponses, Entry, withStage, Found, nobody, found, find, any, only, added, without, expired, released, releasedAll, idsOf, mostEntries}
 use Rattle.rules.specs.Messages.{Terms, Change, Body, local, national, order, response, modify, cancel, clock, Message}
 use Rattle.rules.specs.Refusals.{ofParticipant, orderRow, responseRow, modifyRow, kindRow, refusal}
 use Rattle.rules.specs.State.{Auction, none, pending, State, taken, contraPrice}
 use Rattle.rules.specs.Auction.{eligible, queue, endsByOrder, joins}
-use Rattle.rules.specs.Execution.{Mode, fromQueue, goingLive, legsPass, turnOf, stageAfter, executed, Reply, ready, execute, serve, isWithin}
+use Rattle.rules.specs.Execution.{Mode, fromQueue, goingLive, legsPass, turnOf, stageAfter, executed, Reply, ready, serve, isWithin}
 use Rattle.rules.specs.Step.{Act, goesOn, begins, joining, ends, Intake, entryOf, modifiedEntry, modified, orderIntake, takeIn, goLive, liveOf, steps, closed, ending, quiet, follow, Answer, accepted, step}
 use Rattle.rules.specs.Run.{Sent, answerTo, after}
 use Rattle.rules.specs.Bound.{PlacesSuffice}
-use Rattle.rules.proofs.TestLaws.{eq-of, and-left, not-true, pick-both, pick-if}
+use Rattle.rules.proofs.TestLaws.{eq-of, not-le, and-left, not-true, pick-both, pick-if}
 use Rattle.rules.proofs.RowLaws.{NoneOf, none-of}
-use Rattle.rules.proofs.Invariant.{AllE, Inv, all-map, find-id, find-only}
-use Rattle.rules.proofs.ExecuteCases.{execute-cases}
+use Rattle.rules.specs.Reached.{AllE, Inv}
+use Rattle.rules.proofs.EntryLaws.{all-map, find-id, find-only}
+use Rattle.rules.proofs.ExecuteCases.{execute-cases, serve-each}
 use Rattle.rules.proofs.ExecuteLaws.{executed-inv}
 use Rattle.rules.proofs.ServeLaws.{closed-inv}
 use Rattle.rules.proofs.IntakeLaws.{kind-none, taken-inv, taken-earlier, take-inv, newOrder}
@@ -81,10 +82,9 @@ abbrev Kept : State → Type 0
 Kept s = Inv s × Roomy (s .book)
 
 serve-kept : (m : Mode) (is : List ℕ) (s : State) → Kept s → Kept (serve m is s .state)
-unfolding serve
-serve-kept m [] s k = k
-serve-kept m (i ∷ is) s k =
-    serve-kept m is (execute m i s .state) (execute-cases (λ (r : Reply). Kept (r .state)) m i s k (λ o h r. (executed-inv m i s o (k .0) h r, executed-roomy m i s o (k .0) h r (k .1))))
+serve-kept m is s k =
+    serve-each m (λ js. Kept)
+    (λ i js r p. execute-cases (λ (a : Reply). Kept (a .state)) m i r (λ q. p) (λ o h d. (executed-inv m i r o (p .0) h d, executed-roomy m i r o (p .0) h d (p .1)))) is s k
 
 steps-kept : (s : State) → Kept s → Kept (steps s .state)
 unfolding steps
@@ -124,13 +124,6 @@ unfolding ending
 ending-kept s k = let r : State = serve fromQueue (idsOf (queue (s .book))) s .state in steps-kept (closed r) (closed-kept r (serve-kept fromQueue (idsOf (queue (s .book))) s k))
 
 -- ---- a message taken in
-
-below-most : (n k : ℕ) → leb k n ≡ false → n < k
-below-most n k h =
-    elim (decLe k n) [
-      | yes l ↦ absurd (let z : true ≡ false = rw (le-leb k n l) at h in true≢false z)
-      | no m ↦ omega arith
-    ]
 
 last-at : (f : Stage → Bool) (es : List Entry) (e : Entry) → at f (es ++ (e ∷ [])) ≡ at f es + one (f (e .stage))
 last-at f [] e = omega arith
@@ -191,10 +184,10 @@ take-roomy s r (local q) k f h = f
 take-roomy s r (national q) k f h = f
 take-roomy s r (order t w) k f h =
     let n : NoneOf (orderRow r t) = none-of (orderRow r t) refl h in
-    intake-roomy s (s .auction) t w f (subst (λ (es : List Entry). at isOrderStage es < mostOrders) k (below-most (at isOrderStage (r .book)) mostOrders (n .1 .1 .0)))
+    intake-roomy s (s .auction) t w f (subst (λ (es : List Entry). at isOrderStage es < mostOrders) k (not-le mostOrders (at isOrderStage (r .book)) (n .1 .1 .0)))
 take-roomy s r (response t) k f h =
     let n : NoneOf (responseRow r t) = none-of (responseRow r t) refl h in
-    response-roomy (s .book) (entryOf t (s .clock .next - 1) answer) f (subst (λ (es : List Entry). at isResponse es < mostResponses) k (below-most (at isResponse (r .book)) mostResponses (n .1 .1 .1 .0))) refl
+    response-roomy (s .book) (entryOf t (s .clock .next - 1) answer) f (subst (λ (es : List Entry). at isResponse es < mostResponses) k (not-le mostResponses (at isResponse (r .book)) (n .1 .1 .1 .0))) refl
 take-roomy s r (modify c) k f h =
     let n : NoneOf (modifyRow r c) = none-of (modifyRow r c) refl h in
     let test : List Entry → Bool = λ es. any (λ e. isResponse (e .stage) && ofParticipant (c .id) (c .participant) e) es in
@@ -220,7 +213,7 @@ accepted-kept s m room h k =
     let t : State = taken s (m .time) in
     let i : Intake = takeIn t (m .body) in
     let n : firstOf (kindRow s (m .body)) ≡ 0 = kind-none s m room h in
-    follow-kept (i .state) (i .act) (take-inv t s (m .body) refl (omega arith) (taken-inv s (m .time) (k .0)) (taken-earlier s (m .time) (k .0)) n, take-roomy t s (m .body) refl (k .1) n)
+    follow-kept (i .state) (i .act) (take-inv t s (m .body) refl refl (omega arith) (taken-inv s (m .time) (k .0)) (taken-earlier s (m .time) (k .0)) n, take-roomy t s (m .body) refl (k .1) n)
 
 step-kept : (s : State) (m : Message) (room : ℕ) → Kept s → Kept (step s m room .state)
 unfolding step

@@ -14,7 +14,7 @@ use Rattle.rules.specs.Execution.{Reply, still}
 use Rattle.rules.specs.Step.{Act, goesOn, begins, joining, ends, Intake, takeIn, quiet, follow, Answer, answered, accepted, step}
 use Rattle.rules.specs.Run.{Opened, refusedOpening, started, startOf, opening, Sent, answerTo, answers}
 use Rattle.rules.specs.Demand.{GoodTurn, Told, Good, Demand3OfRules}
-use Rattle.rules.proofs.Invariant.{Inv}
+use Rattle.rules.specs.Reached.{Inv}
 use Rattle.rules.proofs.ServeLaws.{Kept, steps-kept, ending-kept}
 use Rattle.rules.proofs.ClaimLaws.{told}
 use Rattle.rules.proofs.IntakeLaws.{kind-none, taken-inv, taken-earlier, take-inv, take-clock, start-inv}
@@ -45,7 +45,7 @@ unfolding accepted
 accepted-fine s m room v h =
     let t : State = taken s (m .time) in
     let i : Intake = takeIn t (m .body) in
-    let w : Inv (i .state) = take-inv t s (m .body) refl (omega arith) (taken-inv s (m .time) v) (taken-earlier s (m .time) v) (kind-none s m room h) in
+    let w : Inv (i .state) = take-inv t s (m .body) refl refl (omega arith) (taken-inv s (m .time) v) (taken-earlier s (m .time) v) (kind-none s m room h) in
     let n : i .state .clock .next - 1 ≡ s .clock .next = ap (λ (c : Clock). c .next - 1) (take-clock t (m .body)) ∙ back (s .clock .next) in
     answered-fine (s .clock .next) (m .body) (i .act) (follow (i .state) (i .act)) (subst (λ (x : ℕ). Kept x (follow (i .state) (i .act))) n (follow-kept (i .state) (i .act) w))
   where

@@ -21,7 +21,8 @@ use Rattle.rules.proofs.BasicsLaws.{below-full}
 use Rattle.rules.proofs.TestLaws.{pick-none}
 use Rattle.rules.proofs.TurnLaws.{turn-below, turn-sum}
 use Rattle.rules.proofs.RecordLaws.{no-records}
-use Rattle.rules.proofs.Invariant.{AllE, FitQueue, FitLegs, Inv, all-map, all-both, all-only, all-released, settled-all, find-all, find-id, find-only}
+use Rattle.rules.specs.Reached.{AllE, FitStage, FitLegs, Inv}
+use Rattle.rules.proofs.EntryLaws.{not-queued, all-map, all-both, all-only, all-released, settled-all, find-all, find-id, find-only}
 use Rattle.rules.proofs.MarketLaws.{units-less, price-same, derived-other}
 use Rattle.rules.proofs.ExecuteLaws.{turn-order}
 
@@ -175,59 +176,85 @@ self-side false = refl
 no-self : (o : Entry) → crosses o o ≡ false
 no-self o = rw (self-side (o .buy))
 
--- of the queue no entry crosses it, and every other one was open to it
-open-or-not : (t : Stage) (b c : Bool) → (isQueued t ≡ true → b ≡ false) → (opens fromQueue t && b) ≡ false → (b && c) ≡ false
-open-or-not held b c q e = rw e
-open-or-not live b c q e = rw e
-open-or-not queued b c q e = rw (q refl)
-open-or-not answer b c q e = rw e
-
 within-or-not : (b c : Bool) → c ≡ false → (b && c) ≡ false
 within-or-not true c h = h
 within-or-not false c h = refl
 
-book-after : (i n : ℕ) (t : Stage) (o : Entry) (es : List Entry) → o .id ≡ i → AllE (λ e. (e .id ≡ i → e ≡ o) × (isQueued (e .stage) ≡ true → e .buy ≡ o .buy)) es
-    → AllE (λ f. crosses o f ≡ false) (settled (o .id) n t es (sizes (allUpTo (keyOf (o .buy) (o .price)) (offersOf fromQueue o es))))
+-- an entry that was open to it and gave nothing is on its side
+open-or-not : (a b c : Bool) → (a && b) ≡ false → a ≡ true → (b && c) ≡ false
+open-or-not true b c h k = rw h
+open-or-not false b c h k = absurd (true≢false (sym k))
+
+-- an entry within its limit gives all that is open: of those that are left and were open none crosses it
+book-after : (m : Mode) (i n : ℕ) (t : Stage) (o : Entry) (es : List Entry) → o .id ≡ i → AllE (λ e. e .id ≡ i → e ≡ o) es
+    → AllE (λ f. opens m (f .stage) ≡ true → crosses o f ≡ false) (settled (o .id) n t es (sizes (allUpTo (keyOf (o .buy) (o .price)) (offersOf m o es))))
 unfolding settled
-book-after i n t o [] s p = tt
-book-after i n t o (e ∷ es) s p =
-    let rest : AllE (λ f. crosses o f ≡ false) (settled (o .id) n t es (sizes (allUpTo (keyOf (o .buy) (o .price)) (offersOf fromQueue o es)))) = book-after i n t o es s (p .1) in
+book-after m i n t o [] s p = tt
+book-after m i n t o (e ∷ es) s p =
+    let rest : Clear left = book-after m i n t o es s (p .1) in
     elim (ℕ-discrete (e .id) (o .id)) [
       | yes k ↦ (
-          let own : crosses o e ≡ false = subst (λ (f : Entry). crosses o f ≡ false) (sym (p .0 .0 (k ∙ s))) (no-self o) in
+          let own : crosses o e ≡ false = subst (λ (f : Entry). crosses o f ≡ false) (sym (p .0 (k ∙ s))) (no-self o) in
           elim (decLt 0 (e .units - n)) [
-            | yes l ↦ rw (eq-eqb (e .id) (o .id) k, lt-ltb 0 (e .units - n) l) (own, rest)
-            | no m ↦ rw (eq-eqb (e .id) (o .id) k, le-ltb 0 (e .units - n) (omega arith)) rest
+            | yes l ↦ rw (eq-eqb (e .id) (o .id) k, lt-ltb 0 (e .units - n) l) (λ z. own, rest)
+            | no l ↦ rw (eq-eqb (e .id) (o .id) k, le-ltb 0 (e .units - n) (omega arith)) rest
           ]
           )
-      | no k ↦ go (isWithin o (e .price)) refl (isOpenTo fromQueue o e) refl rest k
+      | no k ↦ go (isWithin o (e .price)) refl (isOpenTo m o e) refl rest k
     ]
   where
-    side : isQueued (e .stage) ≡ true → not (sameSide (o .buy) (e .buy)) ≡ false
-    side q = rw (p .0 .1 q, self-side (o .buy))
+    Clear : List Entry → Type 0
+    Clear fs = AllE (λ f. opens m (f .stage) ≡ true → crosses o f ≡ false) fs
 
-    stays : crosses o e ≡ false → AllE (λ f. crosses o f ≡ false) (settled (o .id) n t es (sizes (allUpTo (keyOf (o .buy) (o .price)) (offersOf fromQueue o es)))) → (e .id ≡ o .id → ⊥)
-        → AllE (λ f. crosses o f ≡ false) (keep (afterTurn (o .id) n t e 0) (settled (o .id) n t es (sizes (allUpTo (keyOf (o .buy) (o .price)) (offersOf fromQueue o es)))))
+    left : List Entry
+    left = settled (o .id) n t es (sizes (allUpTo (keyOf (o .buy) (o .price)) (offersOf m o es)))
+
+    stays : (opens m (e .stage) ≡ true → crosses o e ≡ false) → Clear left → (e .id ≡ o .id → ⊥) → Clear (keep (afterTurn (o .id) n t e 0) left)
     stays c rest k =
         elim (decLt 0 (e .units - 0)) [
           | yes l ↦ rw (ne-eqb (e .id) (o .id) k, lt-ltb 0 (e .units - 0) l) (c, rest)
-          | no m ↦ rw (ne-eqb (e .id) (o .id) k, le-ltb 0 (e .units - 0) (omega arith)) rest
+          | no l ↦ rw (ne-eqb (e .id) (o .id) k, le-ltb 0 (e .units - 0) (omega arith)) rest
         ]
 
-    go : (c : Bool) → isWithin o (e .price) ≡ c → (b : Bool) → isOpenTo fromQueue o e ≡ b → AllE (λ f. crosses o f ≡ false) (settled (o .id) n t es (sizes (allUpTo (keyOf (o .buy) (o .price)) (offersOf fromQueue o es)))) → (e .id ≡ o .id → ⊥)
-        → AllE (λ f. crosses o f ≡ false) (keep (afterTurn (o .id) n t e (pick c (pick b (e .units) 0) 0)) (settled (o .id) n t es (sizes (allUpTo (keyOf (o .buy) (o .price)) (offersOf fromQueue o es)))))
+    go : (c : Bool) → isWithin o (e .price) ≡ c → (b : Bool) → isOpenTo m o e ≡ b → Clear left → (e .id ≡ o .id → ⊥) → Clear (keep (afterTurn (o .id) n t e (pick c (pick b (e .units) 0) 0)) left)
     go true w true z rest k = rw (ne-eqb (e .id) (o .id) k, le-ltb 0 (e .units - e .units) (omega arith)) rest
-    go true w false z rest k = stays (open-or-not (e .stage) (not (sameSide (o .buy) (e .buy))) (isWithin o (e .price)) side z) rest k
-    go false w b z rest k = stays (within-or-not (not (sameSide (o .buy) (e .buy))) (isWithin o (e .price)) w) rest k
+    go true w false z rest k = stays (open-or-not (opens m (e .stage)) (not (sameSide (o .buy) (e .buy))) (isWithin o (e .price)) z) rest k
+    go false w b z rest k = stays (λ y. within-or-not (not (sameSide (o .buy) (e .buy))) (isWithin o (e .price)) w) rest k
+
+tail-given : (m : Mode) (s : State) (o : Entry) → 0 < o .units - sum (turnOf m s o .gave) → bookGave m s (turnOf m s o) ≡ sizes (allUpTo (keyOf (o .buy) (o .price)) (offersOf m o (s .book)))
+unfolding interest
+tail-given m s o h = rw (all-given m s o h)
+
+-- after a turn that leaves the order units, nothing that is open to it crosses it
+pub open-after : (m : Mode) (i : ℕ) (t : Stage) (s : State) (o : Entry) → Inv s → find i (s .book) ≡ found o → 0 < o .units - sum (turnOf m s o .gave)
+    → AllE (λ f. opens m (f .stage) ≡ true → crosses o f ≡ false) (settled (o .id) (sum (turnOf m s o .gave)) t (s .book) (bookGave m s (turnOf m s o)))
+open-after m i t s o v h l =
+    let n : ℕ = sum (turnOf m s o .gave) in
+    subst (λ (gs : List ℕ). AllE (λ f. opens m (f .stage) ≡ true → crosses o f ≡ false) (settled (o .id) n t (s .book) gs)) (sym (tail-given m s o l))
+    (book-after m i n t o (s .book) (find-id i (s .book) o h) (find-only i (s .book) o h (v .order)))
 
 -- the queue is on the side of each of its orders
-one-side : (a : Auction) (o e : Entry) → isQueued (o .stage) ≡ true → FitQueue a o → FitQueue a e → isQueued (e .stage) ≡ true → e .buy ≡ o .buy
-one-side none o e q f g h = absurd (true≢false (sym q ∙ f))
+one-side : (a : Auction) (o e : Entry) → isQueued (o .stage) ≡ true → FitStage a o → FitStage a e → isQueued (e .stage) ≡ true → e .buy ≡ o .buy
+one-side none o e q f g h = absurd (true≢false (sym q ∙ not-queued (o .stage) f))
 one-side (pending p) o e q f g h = g h ∙ sym (f q)
 
-tail-given : (s : State) (o : Entry) → 0 < o .units - sum (turnOf fromQueue s o .gave) → bookGave fromQueue s (turnOf fromQueue s o) ≡ sizes (allUpTo (keyOf (o .buy) (o .price)) (offersOf fromQueue o (s .book)))
-unfolding interest
-tail-given s o h = rw (all-given fromQueue s o h)
+queue-after : (i : ℕ) (s : State) (o : Entry) (n : ℕ) (gs : List ℕ) → Inv s → find i (s .book) ≡ found o → isQueued (o .stage) ≡ true
+    → AllE (λ f. isQueued (f .stage) ≡ true → f .buy ≡ o .buy) (settled (o .id) n queued (s .book) gs)
+queue-after i s o n gs v h r =
+    let mine : FitStage (s .auction) o = find-all (FitStage (s .auction)) i (s .book) o h (v .stages) in
+    settled-all (o .id) n queued (λ e. (e .id ≡ i → e ≡ o) × FitStage (s .auction) e) (λ f. isQueued (f .stage) ≡ true → f .buy ≡ o .buy)
+    (λ e q k l z. ap (λ (f : Entry). f .buy) (q .0 (k ∙ find-id i (s .book) o h)), λ e g q k l z. one-side (s .auction) o e r mine (q .1) z)
+    (s .book) gs (all-both (λ e. e .id ≡ i → e ≡ o) (FitStage (s .auction)) (s .book) (find-only i (s .book) o h (v .order)) (v .stages))
+
+-- whoever is not in the queue is open to a queue order
+none-crosses : (o e : Entry) → (isQueued (e .stage) ≡ true → e .buy ≡ o .buy) → (opens fromQueue (e .stage) ≡ true → crosses o e ≡ false) → crosses o e ≡ false
+none-crosses o e q c = go (e .stage) q c
+  where
+    go : (t : Stage) → (isQueued t ≡ true → e .buy ≡ o .buy) → (opens fromQueue t ≡ true → crosses o e ≡ false) → crosses o e ≡ false
+    go held a b = b refl
+    go live a b = b refl
+    go queued a b = rw (a refl, self-side (o .buy))
+    go answer a b = b refl
 
 pub done-after : (i : ℕ) (s : State) (o : Entry) → Inv s → find i (s .book) ≡ found o → isQueued (o .stage) ≡ true → Done (o .id) (executed fromQueue s (turnOf fromQueue s o))
 unfolding executed
@@ -236,26 +263,23 @@ done-after i s o v h r =
     let n : ℕ = sum (t .gave) in
     let market : List Quote = lower (o .buy) (legsGave fromQueue s t) (s .strategy .legs) (s .market) in
     let book : List Entry = settled (o .id) n queued (s .book) (bookGave fromQueue s t) in
-    let mine : FitQueue (s .auction) o = find-all (FitQueue (s .auction)) i (s .book) o h (v .queue) in
-    let only′ : AllE (λ e. e .id ≡ i → e ≡ o) (s .book) = find-only i (s .book) o h (v .order) in
-    let id′ : o .id ≡ i = find-id i (s .book) o h in
-    let sides : AllE (λ e. (e .id ≡ i → e ≡ o) × (isQueued (e .stage) ≡ true → e .buy ≡ o .buy)) (s .book) =
-    all-both (λ e. e .id ≡ i → e ≡ o) (λ e. isQueued (e .stage) ≡ true → e .buy ≡ o .buy) (s .book) only′
-    (all-map (FitQueue (s .auction)) (λ e. isQueued (e .stage) ≡ true → e .buy ≡ o .buy) (λ e g. one-side (s .auction) o e r mine g) (s .book) (v .queue)) in
+    let none′ : 0 < o .units - n → AllE (λ f. crosses o f ≡ false) book =
+    λ l. all-map (λ f. (isQueued (f .stage) ≡ true → f .buy ≡ o .buy) × (opens fromQueue (f .stage) ≡ true → crosses o f ≡ false)) (λ f. crosses o f ≡ false) (λ f q. none-crosses o f (q .0) (q .1)) book
+    (all-both (λ f. isQueued (f .stage) ≡ true → f .buy ≡ o .buy) (λ f. opens fromQueue (f .stage) ≡ true → crosses o f ≡ false) book
+    (queue-after i s o n (bookGave fromQueue s t) v h r) (open-after fromQueue i queued s o v h l)) in
     rw (turn-order fromQueue s o)
     (settled-all (o .id) n queued (λ e. e .id ≡ i → e ≡ o)
     (λ e. e .id ≡ o .id → (shown e (derived (e .buy) (s .strategy .legs) market) ≡ 0) × AllE (λ f. crosses e f ≡ false) book) (
       λ e q k l z. (
-          let same : e ≡ o = q (k ∙ id′) in
+          let same : e ≡ o = q (k ∙ find-id i (s .book) o h) in
           let some : 0 < o .units - n = subst (λ (f : Entry). 0 < f .units - n) same l in (
             subst (λ (f : Entry). shown f (derived (f .buy) (s .strategy .legs) market) ≡ 0) (sym same) (legs-after fromQueue s o v some),
-            subst (λ (f : Entry). AllE (λ g. crosses f g ≡ false) book) (sym same)
-                (subst (λ (gs : List ℕ). AllE (λ g. crosses o g ≡ false) (settled (o .id) n queued (s .book) gs)) (sym (tail-given s o some)) (book-after i n queued o (s .book) id′ sides)),
+            subst (λ (f : Entry). AllE (λ g. crosses f g ≡ false) book) (sym same) (none′ some),
           )
           ),
       λ e g q k l z. absurd (k z),
     )
-    (s .book) (bookGave fromQueue s t) only′)
+    (s .book) (bookGave fromQueue s t) (find-only i (s .book) o h (v .order)))
 
 -- ---- no record where nothing is open
 

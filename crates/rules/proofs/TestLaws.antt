@@ -4,7 +4,7 @@ use mathlib.Core.Bool.{Bool, true, false, _&&_, not, true≢false}
 use Prim.Native.Nat.{ℕ, _≤_, _<_}
 use native.Mathlib.Decide.{ℕ-discrete, decLt, decLe}
 use native.Mathlib.Omega.{arith}
-use borrow.Author.Tests.{ne-eqb, le-ltb, lt-leb}
+use borrow.Author.Tests.{ne-eqb, le-ltb, le-leb, lt-leb}
 use lib.Dec.{eqb, ltb, leb}
 use Rattle.rules.specs.Basics.{pick, between}
 
@@ -20,6 +20,13 @@ le-of a b h =
     elim (decLe a b) [
       | yes l ↦ l
       | no n ↦ absurd (let z : false ≡ true = rw (lt-leb a b (omega arith)) at h in true≢false (sym z))
+    ]
+
+pub not-le : (a b : ℕ) → leb a b ≡ false → b < a
+not-le a b h =
+    elim (decLe a b) [
+      | yes l ↦ absurd (let z : true ≡ false = rw (le-leb a b l) at h in true≢false z)
+      | no n ↦ omega arith
     ]
 
 pub eq-of : (a b : ℕ) → eqb a b ≡ true → a ≡ b

@@ -4,6 +4,7 @@ ghost use Rattle.rules.specs.Bound.{PlacesSuffice, RecordsFit};
 ghost use Rattle.rules.specs.Cases.{CasesHold};
 ghost use Rattle.rules.specs.Cents.{PricesAreExact};
 ghost use Rattle.rules.specs.Demand.{Demand3OfRules};
+ghost use Rattle.rules.specs.Reached.{ReachedStates};
 ghost use Rattle.rules.specs.Series.{ThirdFridaysFixed};
 ghost use Rattle.rules.specs.Sharing.{SharingIsExact};
 
@@ -40,6 +41,11 @@ pub fn records_fit()
 // At most 32 orders and 32 responses are open after every list of messages, so that a new entry finds a place.
 pub fn places_suffice()
     ensures { λ r. ⌜ PlacesSuffice ⌝ }
+{}
+
+// After every list of messages: ids distinct, units above 0, arrival numbers rising and below the next, stages that fit an auction or none, and no two live orders crossed; with no auction pending all orders are live.
+pub fn reached_states_fit()
+    ensures { λ r. ⌜ ReachedStates ⌝ }
 {}
 
 // Demand 3, of the rules' own answers.
