@@ -17,6 +17,7 @@ pub mod ServeLaws
 pub mod ClaimLaws
 pub mod IntakeLaws
 pub mod CrossLaws
+pub mod PassLaws
 pub mod RunLaws
 pub mod ReachedLaws
 pub mod CountLaws
