@@ -22,8 +22,9 @@ use Rattle.types.specs.declared.Opened.{Opened}
 use Rattle.types.specs.declared.Strategy.{Strategy}
 use Rattle.types.specs.declared.Fill.{Fill}
 use Rattle.types.specs.View.{openingOf, stateOf, messageOf, rankOf, contraOf, fillOf, outcomeOf}
+use Rattle.strategy.specs.Opening.{IsOpened}
 use Rattle.fills.specs.Fills.{heldRank, heldContra, heldFill, written}
-use Rattle.demand.specs.Engine.{IsOpened, Applied, Run, over, then, sents, fillCount, told, Demand3}
+use Rattle.demand.specs.Engine.{Applied, Run, over, then, sents, fillCount, told, Demand3}
 
 -- ---- the fill count of an outcome is the number of its records
 
@@ -81,7 +82,7 @@ first-written ys fs = first fs (drop (length (map heldFill fs)) ys)
 told-here : (s : State) (a : Applied s) → map fillOf (take (fillCount (outcomeOf (a .answer .outcome))) (a .list)) ≡ step (stateOf s) (messageOf (a .message)) (length (a .lent)) .fills
 told-here s a =
     let r = step (stateOf s) (messageOf (a .message)) (length (a .lent)) in
-    ap₂ (λ (n : ℕ) (l : List Fill). map fillOf (take n l)) (ap fillCount (a .answers .outcome) ∙ step-count (stateOf s) (messageOf (a .message)) (length (a .lent))) (a .records)
+    ap₂ (λ (n : ℕ) (l : List Fill). map fillOf (take n l)) (ap fillCount (a .kept .0 .outcome) ∙ step-count (stateOf s) (messageOf (a .message)) (length (a .lent))) (a .kept .1)
     ∙ first-written (a .lent) (r .fills)
 
 told-is : {s : State} (run : Run s) → told run ≡ map (λ a. a .fills) (answers (stateOf s) (sents run))
@@ -89,7 +90,7 @@ unfolding answers
 told-is (over s) = refl
 told-is (then s a r) =
     ap₂ (λ (f : List U.Fill) (fs : List (List U.Fill)). f ∷ fs) (told-here s a)
-    (told-is r ∙ ap (λ (x : Shown). map (λ y. y .fills) (answers x (sents r))) (a .answers .state))
+    (told-is r ∙ ap (λ (x : Shown). map (λ y. y .fills) (answers x (sents r))) (a .kept .0 .state))
 
 -- the state of an accepted opening is the one from which the replay starts
 opened-start : (o : Strategy) (r : Opened) → IsOpened o r → r .number ≡ 0 → (opening (openingOf o) ≡ started (stateOf (r .state))) × (stateOf (r .state) ≡ startOf (openingOf o))
@@ -97,7 +98,7 @@ unfolding opening
 opened-start o r i n = (e, by (eqb (openingRefusal (openingOf o)) 0) refl)
   where
     e : opening (openingOf o) ≡ started (stateOf (r .state))
-    e = sym (i .answer) ∙ rw n refl
+    e = sym (i .1) ∙ rw n refl
 
     state : Opened′ → Shown
     state (refusedOpening k) = startOf (openingOf o)

@@ -5,7 +5,7 @@ use Prim.Native.Nat.{ℕ}
 use lib.ListN.{length, take}
 use Rattle.rules.specs.Outcome as O
 use Rattle.rules.specs.Turn as U
-use Rattle.rules.specs.Run.{Sent, startOf, opening}
+use Rattle.rules.specs.Run.{Sent, startOf}
 use Rattle.rules.specs.Demand.{Good}
 use Rattle.types.specs.declared.Strategy.{Strategy}
 use Rattle.types.specs.declared.State.{State}
@@ -13,23 +13,17 @@ use Rattle.types.specs.declared.Message.{Message}
 use Rattle.types.specs.declared.Fill.{Fill}
 use Rattle.types.specs.declared.Opened.{Opened}
 use Rattle.types.specs.declared.Answer.{Answer}
-use Rattle.types.specs.View.{openingOf, messageOf, fillOf, outcomeOf, openedOf}
-use Rattle.strategy.specs.Opening.{openedWith}
-use Rattle.fills.specs.Fills.{Answers, written, recordsFor}
+use Rattle.types.specs.View.{openingOf, messageOf, fillOf, outcomeOf}
+use Rattle.strategy.specs.Opening.{IsOpened}
+use Rattle.fills.specs.Fills.{IsApplied}
 
--- an opening answered, as the contract of `open` says
-pub record IsOpened (o : Strategy) (r : Opened) : Type 0 where
-  pub whole : r ≡ openedWith o
-  pub answer : openedOf r ≡ opening (openingOf o)
-
--- a message applied in a state: the message, the list as it was lent, the answer and the list as it came back, as the contract of `apply` says
+-- a message applied in a state: the message, the list as it was lent, the answer and the list as it came back, all that the contract of `apply` says of them
 pub record Applied (s : State) : Type 0 where
   pub message : Message
   pub lent : List Fill
   pub answer : Answer
   pub list : List Fill
-  pub answers : Answers s message (length lent) answer
-  pub records : list ≡ written lent (recordsFor s message (length lent))
+  pub kept : IsApplied s message lent answer list
 
 -- messages applied one after another, each in the state that the answer before it gave; "nobody else writes the state meanwhile"
 pub data Run : State → Type 0 where

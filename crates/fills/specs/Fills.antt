@@ -44,3 +44,7 @@ pub record Answers (s : State) (m : Message) (room : ℕ) (r : Answer) : Type 0 
   pub state : stateOf (r .state) ≡ step (stateOf s) (messageOf m) room .state
   pub outcome : outcomeOf (r .outcome) ≡ step (stateOf s) (messageOf m) room .outcome
   pub refused : 0 < refusal (stateOf s) (messageOf m) room → r .state ≡ s
+
+-- what `apply` promises, whole: of the state, the message, the list as it was lent, the answer and the list as it came back
+abbrev pub IsApplied : State → Message → List Fill → Answer → List Fill → Type 0
+IsApplied s m lent r list = Answers s m (length lent) r × (list ≡ written lent (recordsFor s m (length lent)))

@@ -1,7 +1,6 @@
 // A message is applied, and its fill records are written into a list that is lent.
 ghost use mathlib.Core.Path.{_≡_};
-ghost use lib.ListN.{length};
-ghost use Rattle.fills.specs.Fills.{written, recordsFor, Answers};
+ghost use Rattle.fills.specs.Fills.{IsApplied};
 use types::Answer;
 use types::Fill;
 use types::Message;
@@ -9,7 +8,7 @@ use types::State;
 
 // A message is applied: its records stand at the start of the list, and the places behind them are as they were.
 pub fn apply(s: State, m: Message, fills: &mut [Fill]) -> Answer
-    ensures { λ r. ⌜ Answers s m (length (now (fills .entry))) r × (now (fills .exit) ≡ written (now (fills .entry)) (recordsFor s m (length (now (fills .entry))))) ⌝ }
+    ensures { λ r. ⌜ IsApplied s m (now (fills .entry)) r (now (fills .exit)) ⌝ }
 {
     let mut w = engine::start(s, m, fills.len());
     let mut i: usize = 0;
@@ -36,7 +35,7 @@ fn paired(answer: Answer, list: [Fill; 2000]) -> Done
 
 // The same with a list that comes and goes by value.
 pub fn applied(s: State, m: Message, list: [Fill; 2000]) -> Done
-    ensures { λ r. ⌜ Answers s m 2000 (r .answer) × (r .list ≡ written list (recordsFor s m 2000)) ⌝ }
+    ensures { λ r. ⌜ IsApplied s m list (r .answer) (r .list) ⌝ }
 {
     let mut fills = list;
     let answer = apply(s, m, &mut fills);

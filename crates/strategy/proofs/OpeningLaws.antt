@@ -19,7 +19,7 @@ use Rattle.types.specs.declared.Strategy.{Strategy}
 use Rattle.types.specs.declared.State.{State}
 use Rattle.types.specs.declared.Opened.{Opened}
 use Rattle.types.proofs.TableLaws.{from-length}
-use Rattle.strategy.specs.Opening.{noStrategy, emptyMarket, openedState, openedBy, openedWith}
+use Rattle.strategy.specs.Opening.{noStrategy, emptyMarket, openedState, openedBy, openedWith, IsOpened}
 
 -- a row that applies where x fails, and the code's answer r for x
 pub row-at : (n : ℕ) (rs : List Rule) (t : Bool) {r x : Bool} → r ≡ x → not r ≡ t → firstOf (rule n (not x) ∷ rs) ≡ pick t n (firstOf rs)
@@ -62,7 +62,7 @@ opened-is o =
 -- the number, and the state that it picks, are the answer
 pub opened-by : (o : Strategy) (r : Opened) (t : Bool)
     → r .number ≡ openingRefusal (openingOf o) → eqb (r .number) 0 ≡ t → r .state ≡ openedState (pick t o noStrategy)
-    → (r ≡ openedWith o) × (openedOf r ≡ opening (openingOf o))
+    → IsOpened o r
 unfolding openedWith
 opened-by o r t e z s =
     let w : r ≡ openedWith o =

@@ -1,4 +1,5 @@
 -- What an opening gives, whole: its number, and the state that it begins with.
+use mathlib.Core.Path.{_≡_}
 use mathlib.Core.Bool.{Bool, false, _&&_}
 use Prim.Native.Nat.{ℕ}
 use lib.Dec.{eqb}
@@ -6,7 +7,8 @@ use lib.ListN.{replicate}
 use Rattle.rules.specs.Basics.{pick, between}
 use Rattle.rules.specs.Series.{goodSymbol, onThirdFriday}
 use Rattle.rules.specs.Strategy.{Leg, goodSide, goodMpv, sameRoot, otherSymbol, nearRatio, openingRefusal}
-use Rattle.types.specs.View.{noQuote, openingOf}
+use Rattle.rules.specs.Run.{opening}
+use Rattle.types.specs.View.{noQuote, openingOf, openedOf}
 use Rattle.types.specs.declared.Strategy.{Strategy}
 use Rattle.types.specs.declared.Market.{Market}
 use Rattle.types.specs.declared.Book.{Book}
@@ -76,3 +78,7 @@ openedBy number o = record { number = number; state = openedState (pick (eqb num
 -- the answer to an opening, whole
 unfoldable pub openedWith : Strategy → Opened
 openedWith o = openedBy (openingRefusal (openingOf o)) o
+
+-- what `open` promises, whole: every place of the answer, and that it is the rules'
+abbrev pub IsOpened : Strategy → Opened → Type 0
+IsOpened o r = (r ≡ openedWith o) × (openedOf r ≡ opening (openingOf o))

@@ -15,9 +15,8 @@ ghost use mathlib.Core.Path.{_≡_};
 ghost use Prim.Native.Nat.{_+_, _≤_, _<_};
 ghost use Rattle.rules.specs.Basics.{between};
 ghost use Rattle.rules.specs.Strategy.{goodSide, goodMpv, allLegs, allPairs, nearRatio, gcd, gcdAll, goodRatios, goodSettings, openingRefusal};
-ghost use Rattle.rules.specs.Run.{opening};
-ghost use Rattle.types.specs.View.{legOf, legAt, settingsOf, openingOf, openedOf, from};
-ghost use Rattle.strategy.specs.Opening.{keepsOf, holdsOf, noStrategy, emptyMarket, emptyBook, openedState, openedWith};
+ghost use Rattle.types.specs.View.{legOf, legAt, settingsOf, openingOf, from};
+ghost use Rattle.strategy.specs.Opening.{keepsOf, holdsOf, noStrategy, emptyMarket, emptyBook, openedState, IsOpened};
 
 // What the table asks of each leg: number 2, 3, 5 and 6.
 enum LegRule {
@@ -317,7 +316,7 @@ fn opened_state(o: Strategy) -> State
 
 // An opening: its state, or the number that refuses it, with the state of no strategy.
 pub fn open(o: Strategy) -> Opened
-    ensures { λ r. ⌜ (r ≡ openedWith o) × (openedOf r ≡ opening (openingOf o)) ⌝ }
+    ensures { λ r. ⌜ IsOpened o r ⌝ }
 {
     let number = refusal(o);
     if number == 0 {

@@ -53,7 +53,7 @@ use Rattle.types.proofs.Message.Laws as G′
 use Rattle.types.proofs.Answer as N
 use Rattle.types.proofs.Answer.Laws as N′
 use Rattle.fills.specs.declared.Done.{Done}
-use Rattle.fills.specs.Fills.{recordsFor, written, Answers}
+use Rattle.fills.specs.Fills.{Answers, IsApplied}
 use Rattle.fills.proofs.Done as D
 use Rattle.fills.proofs.Done.Laws as D′
 use Rattle.fills.proofs.FillRow.{R, vals, tells, makes, lawful}
@@ -143,7 +143,7 @@ module _ {M : Type 1} (𝓤 : URA M) (H : Heap 𝓤) (A : Atoms 𝓤) (W : Given
   abbrev Post : Val → SProp 𝓤
   Post = walkOf 𝓤 H A applied.ended stayed (applied.clauses 𝓤 H A memory run) .post ((tt, tt, tt, a, ats), tt)
 
-  exits : (d : Done) (u : Val) → Answers s m 2000 (d .answer) × (d .list ≡ written ls (recordsFor s m 2000)) → ent 𝓤 (sem 𝓤 H A (Dᵗ .own d (u ∷ []))) (Post u)
+  exits : (d : Done) (u : Val) → IsApplied s m ls (d .answer) (d .list) → ent 𝓤 (sem 𝓤 H A (Dᵗ .own d (u ∷ []))) (Post u)
   exits d u e =
       qed W (‵ (Dᵗ .own d (u ∷ [])) ∷ []) ∵
       suffices ! _ (ends-at 𝓤 H A applied.ended stayed (applied.clauses 𝓤 H A memory run) W ((tt, tt, tt, a, ats), tt) u d (tt, (tt, (tt, tt))) (tt, (tt, (tt, tt)))) $ says ! e $
@@ -201,7 +201,7 @@ module _ {M : Type 1} (𝓤 : URA M) (H : Heap 𝓤) (A : Atoms 𝓤) (W : Given
         ∷ ‵ (fat fullShare S′.mir l₁ 0 (sval s)) ∷ ‵ (fdies S′.mir l₁) ∷ ‵ (froom D′.mir l₀ 0) ∷ ‵ (fdies D′.mir l₀) ∷ []
 
     -- the rest of the body: the array is read, and `paired` is called
-    leaves : (r : Answer) (v : Val) (zs : List Fill) → Is Nᵗ r (v ∷ []) → Is Ar zs (avals zs) → Answers s m 2000 r × (zs ≡ written ls (recordsFor s m 2000)) → Sq W (Back v zs) (runs C Λ En mir.t-5 (atRet En Post))
+    leaves : (r : Answer) (v : Val) (zs : List Fill) → Is Nᵗ r (v ∷ []) → Is Ar zs (avals zs) → IsApplied s m ls r zs → Sq W (Back v zs) (runs C Λ En mir.t-5 (atRet En Post))
     leaves r v zs is-r is-z e =
         assigns ! (of-opd ! (load ! (from ! (stop !)) (look ! 0 refl))) (from ! (stop !)) (init ! 3 refl (typed-array zs is-z)) $
         nothing ! $ use1 W (raw (Paired 𝓤 H A memory run .pre (to-paired r v zs))) (goes-paired r v zs is-r is-z) $
@@ -214,7 +214,7 @@ module _ {M : Type 1} (𝓤 : URA M) (H : Heap 𝓤) (A : Atoms 𝓤) (W : Given
         returns ! (look ! 19 refl) $ forget ! 1 refl $ forget ! 4 refl $ forget ! 6 refl $ forget ! 8 refl $ forget ! 10 refl $ forget ! 13 refl $ forget ! 15 refl $ forget ! 17 refl $ forget ! 19 refl $
         move ! (19 ∷ 20 ∷ []) $ free1 ! $ move ! (17 ∷ 18 ∷ []) $ free1 ! $ move ! (15 ∷ 16 ∷ []) $ free1 ! $ move ! (13 ∷ 14 ∷ []) $ free1 ! $ move ! (1 ∷ 12 ∷ []) $ free1 ! $
         move ! (9 ∷ 10 ∷ []) $ free1 ! $ move ! (7 ∷ 8 ∷ []) $ free1 ! $ move ! (5 ∷ 6 ∷ []) $ free1 ! $ move ! (3 ∷ 4 ∷ []) $ free1 ! $ free0 ! $
-        keep ! (0 ∷ []) $ by ! (exits d u (subst (Answers s m 2000) (sym (f .0)) (e .0), f .1 ∙ e .1))))))
+        keep ! (0 ∷ []) $ by ! (exits d u (subst (Answers s m (length ls)) (sym (f .0)) (e .0), f .1 ∙ e .1))))))
 
     -- what `apply` leaves: the token, its result, and the slice's last list
     abbrev Came : ℕ → GName → Val → Answer → List Fill → List (Item 𝓤)
@@ -224,7 +224,7 @@ module _ {M : Type 1} (𝓤 : URA M) (H : Heap 𝓤) (A : Atoms 𝓤) (W : Given
         ∷ ‵ (fat fullShare S′.mir l₁ 0 (sval s)) ∷ ‵ (fdies S′.mir l₁) ∷ ‵ (froom D′.mir l₀ 0) ∷ ‵ (fdies D′.mir l₀) ∷ []
 
     -- the lifetime is ended, the array taken back, and the result stored
-    takes : (α : ℕ) (γ : GName) (v : Val) (r : Answer) (zs : List Fill) → Answers s m 2000 r × (zs ≡ written ls (recordsFor s m 2000)) → Sq W (Came α γ v r zs) (lands C Λ En (place 5 []) v mir.t-5 (atRet En Post))
+    takes : (α : ℕ) (γ : GName) (v : Val) (r : Answer) (zs : List Fill) → IsApplied s m ls r zs → Sq W (Came α γ v r zs) (lands C Λ En (place 5 []) v mir.t-5 (atRet En Post))
     takes α γ v r zs e =
         lft-end ! tt $ move ! (0 ∷ 5 ∷ 3 ∷ []) $
         use3 W (later (‵ (Arr (mem R) (length ls) .lies zs l₄ 0))) (slice-back 𝓤 H A W R (α ∷ []) γ zs (length ls) l₄ 0) $ await ! tt $
@@ -255,10 +255,10 @@ module _ {M : Type 1} (𝓤 : URA M) (H : Heap 𝓤) (A : Atoms 𝓤) (W : Given
         -- [what `apply` asks; the lender's part; _8 2; _7 4; _6 6; _5 8; what frees _4 10; _3 11; _2 13; _1 15; _0 17]
         calls-at ! fm (Apply 𝓤 H A memory run) known-apply (to-apply (α ∷ []) γ l₄) (and-then ! (load ! (from ! (stop !)) (look ! 15 refl)) (and-then ! (load ! (from ! (stop !)) (look ! 13 refl)) (and-then ! (load ! (from ! (stop !)) (look ! 4 refl)) (no-more !)))) (λ v.
         use1 W (later (some (λ (r : Answer). ((‵ (flft (α ∷ []) fullShare) ⊛ ‵ ftrue) ⊛ ‵ (Nᵗ .own r (v ∷ []))) ⊛ raw (ensured 𝓤 H A apply.ended (apply.clauses 𝓤 H A memory run) (α ∷ [], tt) (given′ (α ∷ []) γ l₄) tt r)))) (id⊢ 𝓤 _) $ await ! tt $ pick ! (λ r.
-        split ! $ move ! (1 ∷ []) $ use1 W (some (λ (zs : Unit {0} × (Unit {0} × (List Fill × Unit {0}))). ‵ (lasts apply.ended (α ∷ [], tt) (given′ (α ∷ []) γ l₄) zs) ⊛ raw (fact 𝓤 (Answers s m (length ls) r × (zs .1 .1 .0 ≡ written ls (recordsFor s m (length ls))))))) (id⊢ 𝓤 _) $ pick ! (λ zs.
-        split ! $ move ! (1 ∷ []) $ heard ! (Answers s m (length ls) r × (zs .1 .1 .0 ≡ written ls (recordsFor s m (length ls)))) (λ e.
+        split ! $ move ! (1 ∷ []) $ use1 W (some (λ (zs : Unit {0} × (Unit {0} × (List Fill × Unit {0}))). ‵ (lasts apply.ended (α ∷ [], tt) (given′ (α ∷ []) γ l₄) zs) ⊛ raw (fact 𝓤 (IsApplied s m ls r (zs .1 .1 .0))))) (id⊢ 𝓤 _) $ pick ! (λ zs.
+        split ! $ move ! (1 ∷ []) $ heard ! (IsApplied s m ls r (zs .1 .1 .0)) (λ e.
         fsplit ! $ drop ! $ fsplit ! $ drop ! $ fsplit ! $ fsplit ! $ move ! (1 ∷ []) $ feqL ! (λ l. move ! (2 ∷ []) $ split ! $ split ! $
-        takes α γ v r (zs .1 .1 .0) (subst (λ (n : ℕ). Answers s m n r × (zs .1 .1 .0 ≡ written ls (recordsFor s m n))) all e))))))))
+        takes α γ v r (zs .1 .1 .0) e)))))))
 
   module _ (C : Calls 𝓤 H) (Λ : Loops 𝓤 H) (fm : FmC 𝓤 H (W .laws) C) (known-apply : Triple 𝓤 (C #fills·apply) (Apply 𝓤 H A memory run)) (known-paired : Triple 𝓤 (C #fills·paired) (Paired 𝓤 H A memory run)) where
     walk : ent 𝓤 (onEntry 𝓤 H A applied.signature tt tt a ats) (WpFn 𝓤 H C Λ code.function (sval s ∷ gval m ∷ aval ls ∷ []) Post)

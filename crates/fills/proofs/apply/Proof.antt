@@ -85,7 +85,7 @@ use Rattle.engine.proofs.finish as finish
 use Rattle.engine.proofs.finish.Symbol as finish-def
 use Rattle.engine.proofs.finish.Symbol.{name as #engine·finish}
 use Rattle.engine.proofs.finish.Met as finish-thm
-use Rattle.fills.specs.Fills.{heldFill, recordsFor, written, Answers}
+use Rattle.fills.specs.Fills.{heldFill, recordsFor, written, Answers, IsApplied}
 use Rattle.fills.proofs.ListLaws.{sets-more, sets-written}
 use Rattle.fills.proofs.HeldLaws.{held-one}
 use Rattle.fills.proofs.FieldRead.{field-read}
@@ -180,7 +180,7 @@ module _ {M : Type 1} (𝓤 : URA M) (H : Heap 𝓤) (A : Atoms 𝓤) (W : Given
   abbrev ruled : Ruled
   ruled = step (stateOf s) (messageOf m) (length ys)
 
-  exits : (r : Answer) (v : Val) (zs : List Fill) → Answers s m (length ys) r × (zs ≡ written ys (recordsFor s m (length ys))) → length zs ≡ length ys
+  exits : (r : Answer) (v : Val) (zs : List Fill) → IsApplied s m ys r zs → length zs ≡ length ys
       → ent 𝓤 (⋆ 𝓤 H A (‵ (fobs γ (codedHoleys R .code (heres R zs))) ∷ ‵ (fbor κ (Held R (length zs) b o γ)) ∷ ‵ (flft κ q) ∷ ‵ (Nᵗ .own r (v ∷ [])) ∷ [])) (Post v)
   exits r v zs e l =
       qed W (‵ (fobs γ (codedHoleys R .code (heres R zs))) ∷ ‵ (fbor κ (Held R (length zs) b o γ)) ∷ ‵ (flft κ q) ∷ ‵ (Nᵗ .own r (v ∷ [])) ∷ []) ∵
