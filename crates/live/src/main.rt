@@ -1,0 +1,176 @@
+// live: a copy of the engine over pipes. It reads a header and its legs on standard input and answers the opening; then it answers each message record at once, until the input ends.
+ghost use mathlib.Core.Path.{_≡_};
+ghost use Prim.Native.Nat.{_≤_, min};
+ghost use lib.ListN.{length};
+ghost use Rattle.types.specs.View.{stateOf};
+ghost use Rattle.engine.specs.Work.{Ready};
+ghost use Rattle.feed.specs.Replies.{answerTo};
+use engine::Work;
+use libc::STDIN_FILENO;
+use libc::STDOUT_FILENO;
+use types::Fill;
+use types::Opened;
+use types::Outcome;
+use types::State;
+
+// Between two messages: whether another one is read, and the state.
+struct Pause {
+    pub going: bool,
+    pub state: State,
+}
+
+impl Pause {
+    // No copy reads so many records: it would take ten thousand million a second for three years.
+    pub const MOST_RECORDS: u64 = 1_000_000_000_000_000_000;
+}
+
+// ---- what is written
+
+// The first n bytes of a line; whether all were taken.
+fn say(line: &[u8], n: usize) -> bool
+    requires { ⌜ n ≤ length (now line) ⌝ }
+{
+    io::write_all(STDOUT_FILENO, &line[..n])
+}
+
+fn say_opening(o: Opened) -> bool {
+    let mut line = [0u8; 128];
+    let n = text::put_opening(&mut line, o);
+    say(&line, n)
+}
+
+fn say_outcome(o: Outcome) -> bool {
+    let mut line = [0u8; 128];
+    let n = text::put_outcome(&mut line, o);
+    say(&line, n)
+}
+
+fn say_fill(f: Fill) -> bool {
+    let mut line = [0u8; 128];
+    let n = text::put_fill(&mut line, f);
+    say(&line, n)
+}
+
+// The records of a work.
+fn say_fills(from: Work) -> bool
+    requires { ⌜ Ready from ⌝ }
+{
+    let mut w = from;
+    while 0 < w.more {
+        if !say_fill(engine::current(w)) {
+            return false;
+        }
+        w = engine::next(w);
+    }
+    true
+}
+
+// The input ends inside the header, the legs or a record.
+fn say_incomplete() {
+    io::write_all(STDOUT_FILENO, b"incomplete\n");
+}
+
+// ---- the opening
+
+// A leg that is not looked at; whether it was there.
+fn skip_leg() -> bool {
+    let mut leg = [0u8; 24];
+    io::read_full(STDIN_FILENO, &mut leg) == 24
+}
+
+// So many of them.
+fn skip_legs(count: usize) -> bool {
+    let mut left = count;
+    while 0 < left {
+        if !skip_leg() {
+            return false;
+        }
+        left -= 1;
+    }
+    true
+}
+
+fn least(a: usize, b: usize) -> usize
+    ensures { λ r. ⌜ r ≡ min a b ⌝ }
+{
+    if a < b {
+        return a;
+    }
+    b
+}
+
+// The header, and the legs behind it, of which four are kept; whether all were there.
+fn read_opening(head: &mut [u8]) -> bool
+    requires { ⌜ length (now head) ≡ 136 ⌝ }
+{
+    if io::read_full(STDIN_FILENO, &mut head[0..40]) < 40 {
+        return false;
+    }
+    let h = tape::header_of(head);
+    let count = h.legcount as usize;
+    let kept = least(count, 4);
+    let end = 40 + 24 * kept;
+    if io::read_full(STDIN_FILENO, &mut head[40..end]) < 24 * kept {
+        return false;
+    }
+    skip_legs(count - kept)
+}
+
+// ---- the messages
+
+// The answer to a record.
+fn answer(s: State, p: &[u8]) -> Pause
+    ensures { λ r. ⌜ stateOf (r .state) ≡ answerTo (stateOf s) (now (p .entry)) .state ⌝ }
+{
+    let r = feed::reply_to(s, p);
+    let a = r.answer;
+    let outcome = a.outcome;
+    let state = a.state;
+    let work = r.work;
+    let going = say_outcome(outcome) && say_fills(work);
+    Pause { going, state }
+}
+
+// The next record, and its answer.
+fn turn(s: State) -> Pause {
+    let mut p = [0u8; 36];
+    let n = io::read_full(STDIN_FILENO, &mut p);
+    if n == 36 {
+        return answer(s, &p);
+    }
+    if 0 < n {
+        say_incomplete();
+    }
+    Pause {
+        going: false,
+        state: s,
+    }
+}
+
+// Record after record.
+fn serve(s: State) {
+    let mut state = s;
+    let mut left = Pause::MOST_RECORDS;
+    while 0 < left {
+        let at = turn(state);
+        if !at.going {
+            return;
+        }
+        state = at.state;
+        left -= 1;
+    }
+}
+
+fn main() {
+    let mut head = [0u8; 136];
+    if !read_opening(&mut head) {
+        say_incomplete();
+        return;
+    }
+    let o = feed::open(&head);
+    let said = say_opening(o);
+    if said & (o.number == 0) {
+        let state = o.state;
+        serve(state);
+    }
+}
