@@ -5,6 +5,7 @@ ghost use Rattle.types.specs.View.{openedOf};
 ghost use Rattle.engine.specs.Work.{lastState, lastOutcome, Ready};
 ghost use Rattle.feed.specs.Replies.{openingIn, Begins, Replies};
 use engine::Work;
+use tape::Header;
 use types::Answer;
 use types::Fill;
 use types::Opened;
@@ -20,7 +21,7 @@ pub struct Reply {
 pub fn open(t: &[u8]) -> Opened
     ensures { λ r. ⌜ openedOf r ≡ openingIn (now (t .entry)) ⌝ }
 {
-    strategy::open(tape::strategy_from(t, 40))
+    strategy::open(tape::strategy_from(t, Header::BYTES as u16))
 }
 
 // The work of a message record.

@@ -8,10 +8,21 @@ ghost use Rattle.feed.specs.Replies.{answerTo};
 use engine::Work;
 use libc::STDIN_FILENO;
 use libc::STDOUT_FILENO;
+use tape::Header;
 use types::Fill;
 use types::Opened;
 use types::Outcome;
 use types::State;
+use types::Strategy;
+
+// The bytes of a header, of a leg and of a message record; the legs that are kept.
+const HEADER: usize = Header::BYTES;
+
+const LEG: usize = 24;
+
+const RECORD: usize = 36;
+
+const LEGS: usize = Strategy::MOST_LEGS;
 
 // Between two messages: whether another one is read, and the state.
 struct Pause {
@@ -20,7 +31,7 @@ struct Pause {
 }
 
 impl Pause {
-    // No copy reads so many records: it would take ten thousand million a second for three years.
+    // No copy reads so many: in three years that would be ten thousand million a second.
     pub const MOST_RECORDS: u64 = 1_000_000_000_000_000_000;
 }
 
@@ -74,8 +85,8 @@ fn say_incomplete() {
 
 // A leg that is not looked at; whether it was there.
 fn skip_leg() -> bool {
-    let mut leg = [0u8; 24];
-    io::read_full(STDIN_FILENO, &mut leg) == 24
+    let mut leg = [0u8; LEG];
+    io::read_full(STDIN_FILENO, &mut leg) == LEG
 }
 
 // So many of them.
@@ -103,14 +114,14 @@ fn least(a: usize, b: usize) -> usize
 fn read_opening(head: &mut [u8]) -> bool
     requires { ⌜ length (now head) ≡ 136 ⌝ }
 {
-    if io::read_full(STDIN_FILENO, &mut head[0..40]) < 40 {
+    if io::read_full(STDIN_FILENO, &mut head[0..HEADER]) < HEADER {
         return false;
     }
     let h = tape::header_of(head);
     let count = h.legcount as usize;
-    let kept = least(count, 4);
-    let end = 40 + 24 * kept;
-    if io::read_full(STDIN_FILENO, &mut head[40..end]) < 24 * kept {
+    let kept = least(count, LEGS);
+    let end = HEADER + LEG * kept;
+    if io::read_full(STDIN_FILENO, &mut head[HEADER..end]) < LEG * kept {
         return false;
     }
     skip_legs(count - kept)
@@ -133,9 +144,9 @@ fn answer(s: State, p: &[u8]) -> Pause
 
 // The next record, and its answer.
 fn turn(s: State) -> Pause {
-    let mut p = [0u8; 36];
+    let mut p = [0u8; RECORD];
     let n = io::read_full(STDIN_FILENO, &mut p);
-    if n == 36 {
+    if n == RECORD {
         return answer(s, &p);
     }
     if 0 < n {
@@ -162,7 +173,7 @@ fn serve(s: State) {
 }
 
 fn main() {
-    let mut head = [0u8; 136];
+    let mut head = [0u8; HEADER + LEGS * LEG];
     if !read_opening(&mut head) {
         say_incomplete();
         return;

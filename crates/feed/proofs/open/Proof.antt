@@ -3,6 +3,9 @@ use borrow.Author.Needs.{needs}
 use Rattle.feed.proofs.open.Statement.{statement}
 use Rattle.feed.proofs.open.Tie as tie
 
+cast-strategy-from : tie.Need-cast-strategy-from
+cast-strategy-from c = search needs
+
 strategy-from-requires : tie.Need-strategy-from-requires
 strategy-from-requires c κs = search needs
 
@@ -13,4 +16,4 @@ returns : tie.Need-returns
 returns c = c .open .ensures .1 ∙ c .before .strategy-from .ensures
 
 pub open-spec : {M : Type 1} → statement M
-open-spec = tie.close (tie.spec strategy-from-requires open-requires returns)
+open-spec = tie.close (tie.spec cast-strategy-from strategy-from-requires open-requires returns)
