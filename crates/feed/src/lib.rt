@@ -1,9 +1,11 @@
 // What live answers, from the bytes that it reads.
 ghost use mathlib.Core.Path.{_≡_};
-ghost use Prim.Native.Nat.{_≤_};
+ghost use Prim.Native.Nat.{_≤_, _<_};
+ghost use lib.ListN.{length};
 ghost use Rattle.types.specs.View.{openedOf};
 ghost use Rattle.engine.specs.Work.{lastState, lastOutcome, Ready};
-ghost use Rattle.feed.specs.Replies.{openingIn, Begins, Replies};
+ghost use Rattle.text.specs.Places.{Put};
+ghost use Rattle.feed.specs.Replies.{openingIn, Begins, lineAt, Goes, IsAtRecords, Replies, IsNext};
 use engine::Work;
 use tape::Header;
 use types::Answer;
@@ -11,11 +13,22 @@ use types::Fill;
 use types::Opened;
 use types::State;
 
-// The answer to a message, and the work that gives its records.
+// The answer to a message, on its way out: whose line is at hand, the answer, and the work that gives its records.
 pub struct Reply {
+    pub stage: u8,
     pub answer: Answer,
     pub work: Work,
 }
+
+impl Reply {
+    pub const OUTCOME: u8 = 0;
+
+    pub const RECORD: u8 = 1;
+
+    pub const OVER: u8 = 2;
+}
+
+// ---- the answers
 
 // A header, and the legs right behind it. The header's offsets and its message count are not used.
 pub fn open(t: &[u8]) -> Opened
@@ -47,12 +60,62 @@ fn through(from: Work) -> Work
     w
 }
 
-// The answer to a message record. Its records are still to be given, since the outcome that counts them stands before them.
+// The answer to a message record, its outcome's line at hand. The records are gone through once to count them for that line.
 pub fn reply_to(s: State, p: &[u8]) -> Reply
     ensures { λ r. ⌜ Replies s (now (p .entry)) r ⌝ }
 {
     let work = begin(s, p);
     let last = through(work);
     let answer = engine::finish(last);
-    Reply { answer, work }
+    Reply {
+        stage: Reply::OUTCOME,
+        answer,
+        work,
+    }
+}
+
+// ---- its lines
+
+// The bytes of the line at hand, at the start of a buffer.
+pub fn put_line(out: &mut [u8; 128], r: Reply) -> usize
+    requires { ⌜ length (now out) ≡ 128 ⌝ }
+    ensures { λ n. ⌜ Put (lineAt r) (now (out .entry)) n (now (out .exit)) ⌝ }
+{
+    if r.stage == Reply::OUTCOME {
+        let a = r.answer;
+        let o = a.outcome;
+        return text::put_outcome(out, o);
+    }
+    let w = r.work;
+    text::put_fill(out, engine::current(w))
+}
+
+// A reply of which the records of a work are left.
+fn at_records(answer: Answer, work: Work) -> Reply
+    ensures { λ r. ⌜ IsAtRecords answer work r ⌝ }
+{
+    if 0 < work.more {
+        return Reply {
+            stage: Reply::RECORD,
+            answer,
+            work,
+        };
+    }
+    Reply {
+        stage: Reply::OVER,
+        answer,
+        work,
+    }
+}
+
+// The reply once the line at hand is given.
+pub fn next(r: Reply) -> Reply
+    ensures { λ q. ⌜ (Goes r → r .stage < 2 → IsNext r q) ⌝ }
+{
+    let a = r.answer;
+    let w = r.work;
+    if r.stage == Reply::RECORD {
+        return at_records(a, engine::next(w));
+    }
+    at_records(a, w)
 }

@@ -3,15 +3,12 @@ ghost use mathlib.Core.Path.{_≡_};
 ghost use Prim.Native.Nat.{_≤_, min};
 ghost use lib.ListN.{length};
 ghost use Rattle.types.specs.View.{stateOf};
-ghost use Rattle.engine.specs.Work.{Ready};
-ghost use Rattle.feed.specs.Replies.{answerTo};
-use engine::Work;
+ghost use Rattle.feed.specs.Replies.{answerTo, Goes};
+use feed::Reply;
 use libc::STDIN_FILENO;
 use libc::STDOUT_FILENO;
 use tape::Header;
-use types::Fill;
 use types::Opened;
-use types::Outcome;
 use types::State;
 use types::Strategy;
 
@@ -50,28 +47,22 @@ fn say_opening(o: Opened) -> bool {
     say(&line, n)
 }
 
-fn say_outcome(o: Outcome) -> bool {
+fn say_line(r: Reply) -> bool {
     let mut line = [0u8; 128];
-    let n = text::put_outcome(&mut line, o);
+    let n = feed::put_line(&mut line, r);
     say(&line, n)
 }
 
-fn say_fill(f: Fill) -> bool {
-    let mut line = [0u8; 128];
-    let n = text::put_fill(&mut line, f);
-    say(&line, n)
-}
-
-// The records of a work.
-fn say_fills(from: Work) -> bool
-    requires { ⌜ Ready from ⌝ }
+// All lines of a reply.
+fn say_reply(first: Reply) -> bool
+    requires { ⌜ Goes first ⌝ }
 {
-    let mut w = from;
-    while 0 < w.more {
-        if !say_fill(engine::current(w)) {
+    let mut r = first;
+    while r.stage < Reply::OVER {
+        if !say_line(r) {
             return false;
         }
-        w = engine::next(w);
+        r = feed::next(r);
     }
     true
 }
@@ -134,11 +125,8 @@ fn answer(s: State, p: &[u8]) -> Pause
     ensures { λ r. ⌜ stateOf (r .state) ≡ answerTo (stateOf s) (now (p .entry)) .state ⌝ }
 {
     let r = feed::reply_to(s, p);
-    let a = r.answer;
-    let outcome = a.outcome;
-    let state = a.state;
-    let work = r.work;
-    let going = say_outcome(outcome) && say_fills(work);
+    let going = say_reply(r);
+    let state = r.answer.state;
     Pause { going, state }
 }
 

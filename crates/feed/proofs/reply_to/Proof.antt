@@ -1,5 +1,7 @@
-use mathlib.Core.Path.{_∙_}
+use mathlib.Core.Path.{refl, _∙_}
+use native.Mathlib.Omega.{arith}
 use Rattle.engine.proofs.WorkLaws.{finishes}
+use Rattle.feed.proofs.ReplyLaws.{first-bytes}
 use borrow.Author.Needs.{needs}
 use Rattle.feed.proofs.reply_to.Statement.{statement}
 use Rattle.feed.proofs.reply_to.Tie as tie
@@ -19,7 +21,14 @@ returns c =
     let t = T .through .ensures in
     let b = T .before .begin .ensures in
     let f = finishes (T .through .result) (c .finish .result) (t .1) (t .0) (c .finish .ensures) in
-    record { state = f .0 ∙ t .2 ∙ b .state; outcome = f .1 ∙ t .3 ∙ b .outcome; records = b .records; ready = b .ready }
+    let o = f .1 ∙ t .3 ∙ b .outcome in
+    record {
+      state = f .0 ∙ t .2 ∙ b .state;
+      outcome = o;
+      records = b .records;
+      bytes = first-bytes _ _ _ refl o (b .records);
+      goes = record { ready = b .ready; some = λ h. absurd (omega (arith, h)) };
+    }
 
 pub reply-to-spec : {M : Type 1} → statement M
 reply-to-spec = tie.close (tie.spec begin-requires through-requires finish-requires returns)
