@@ -17,7 +17,7 @@ use Rattle.rules.specs.Tape.{Header, headerOf, legBytes, legOf, legsFrom, strat
 use Rattle.rules.proofs.TestLaws.{and-left, and-right}
 use Rattle.types.specs.View.{upto, from}
 use Rattle.types.proofs.TableLaws.{from-length}
-use Rattle.tape.specs.View.{legIn}
+use Rattle.tape.specs.View.{legIn, strategyFrom}
 use Rattle.tape.proofs.LegLaws.{leg-is, and-none, short-taken, symbol-good}
 
 -- ---- refused openings
@@ -102,15 +102,18 @@ read-opening f p s a b c d n =
           ∙ sym (few-refused (with (legsFrom n p) s) (rw (from-tape-length n p) (too-many n (omega arith))))
     ]
 
--- the opening of four legs at their places, as a header tells of them
-pub tape-opening : (f : ℕ → Leg) (t : List ℕ) (h : Header) → h ≡ headerOf t → f 0 ≡ legIn (drop (h .legOffset) t) → f 1 ≡ legIn (drop (h .legOffset + legBytes) t)
-    → f 2 ≡ legIn (drop (h .legOffset + legBytes + legBytes) t) → f 3 ≡ legIn (drop (h .legOffset + legBytes + legBytes + legBytes) t)
-    → opening (with (from f 0 (h .legCount)) (h .settings)) ≡ opening (strategyOf t)
-unfolding strategyOf
-tape-opening f t h e a b c d =
-    let at = h .legOffset in
+-- the opening of four legs from a place on, as a header tells of them
+pub opening-from : (f : ℕ → Leg) (t : List ℕ) (h : Header) (at : ℕ) → h ≡ headerOf t → f 0 ≡ legIn (drop at t) → f 1 ≡ legIn (drop (at + legBytes) t)
+    → f 2 ≡ legIn (drop (at + legBytes + legBytes) t) → f 3 ≡ legIn (drop (at + legBytes + legBytes + legBytes) t)
+    → opening (with (from f 0 (h .legCount)) (h .settings)) ≡ opening (strategyFrom at t)
+opening-from f t h at e a b c d =
     let one = drop-drop legBytes at t in
     let two = ap (drop legBytes) one ∙ drop-drop legBytes (at + legBytes) t in
     let three = ap (drop legBytes) two ∙ drop-drop legBytes (at + legBytes + legBytes) t in
     read-opening f (drop at t) (h .settings) a (b ∙ ap legIn (sym one)) (c ∙ ap legIn (sym two)) (d ∙ ap legIn (sym three)) (h .legCount)
-    ∙ ap (λ (g : Header). opening (with (legsFrom (g .legCount) (drop (g .legOffset) t)) (g .settings))) e
+    ∙ ap (λ (g : Header). opening (with (legsFrom (g .legCount) (drop at t)) (g .settings))) e
+
+-- from the place that the header names
+pub tape-opening : (t : List ℕ) (h : Header) → h ≡ headerOf t → opening (strategyFrom (h .legOffset) t) ≡ opening (strategyOf t)
+unfolding strategyOf
+tape-opening t h e = ap (λ (g : Header). opening (strategyFrom (g .legOffset) t)) e

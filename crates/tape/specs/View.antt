@@ -1,7 +1,7 @@
 -- What the tape's types stand for in the rules.
 use mathlib.Core.List.{List}
 use Prim.Native.Nat.{ℕ, _+_, min}
-use lib.ListN.{length, getD}
+use lib.ListN.{length, getD, drop}
 use Rattle.rules.specs.Strategy as S
 use Rattle.rules.specs.Tape as T
 use Rattle.types.specs.View.{from, settingsOf}
@@ -49,6 +49,10 @@ bytesIn n p = from (λ i. getD p i 0) 0 n
 -- a leg, its symbol of 21 bytes wherever the part ends
 abbrev pub legIn : List ℕ → S.Leg
 legIn p = record { symbol = bytesIn 21 p; side = getD p 21 0; ratio = getD p 22 0; mpv = getD p 23 0 }
+
+-- the opening of a header and of as many legs as it counts, which stand from a place on
+abbrev pub strategyFrom : ℕ → List ℕ → S.Strategy
+strategyFrom at t = record { legs = T.legsFrom (T.headerOf t .legCount) (drop at t); settings = T.headerOf t .settings }
 
 -- a section
 abbrev pub sectionOf : Section → T.Section

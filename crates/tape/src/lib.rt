@@ -10,7 +10,7 @@ ghost use Rattle.rules.specs.Run.{opening};
 ghost use Rattle.rules.specs.Tape.{settingsOf as settingsIn, headerOf as headerIn, usesOf as usesIn, fieldsOf as fieldsIn, usedFields, localOf as localIn, nationalOf as nationalIn, termsOf, changeOf as changeIn, bodyOf as bodyIn, messageOf as messageIn, legSection, messageSection, isMisplaced, overlaps, isDamaged, isKind, knownKinds, tapeRefusal, strategyOf as strategyIn};
 ghost use Rattle.types.specs.declared.Body.the-variants.{Order as sentOrder};
 ghost use Rattle.types.specs.View.{legOf, settingsOf, openingOf, localOf, nationalOf, responseTerms, changeOf, bodyOf, messageOf};
-ghost use Rattle.tape.specs.View.{headerOf, usesOf, fieldsOf, bytesIn, legIn, sectionOf, placeAfter};
+ghost use Rattle.tape.specs.View.{headerOf, usesOf, fieldsOf, bytesIn, legIn, strategyFrom, sectionOf, placeAfter};
 use types::Amounts;
 use types::Body;
 use types::Cancel;
@@ -507,7 +507,7 @@ fn is_damaged(t: &[u8]) -> bool
 }
 
 // One of the seven kinds.
-fn is_kind(kind: u8) -> bool
+pub fn is_kind(kind: u8) -> bool
     ensures { λ r. ⌜ r ≡ isKind kind ⌝ }
 {
     (Uses::LEAST_KIND <= kind) & (kind <= Uses::MOST_KIND)
@@ -566,13 +566,13 @@ pub fn message_at(tape: &[u8], at: usize) -> Message
     message_of(&tape[start..])
 }
 
-// The opening that a tape holds. With more than four legs, or with legs that the tape is too short for, it is refused as the tape's own is.
-pub fn strategy_of(t: &[u8]) -> Strategy
-    ensures { λ r. ⌜ opening (openingOf r) ≡ opening (strategyIn (now (t .entry))) ⌝ }
+// The opening of a header and of legs that stand from a place on. With more than four legs, or with legs that the tape is too short for, it is refused as the tape's own is.
+pub fn strategy_from(t: &[u8], at: u16) -> Strategy
+    ensures { λ r. ⌜ opening (openingOf r) ≡ opening (strategyFrom at (now (t .entry))) ⌝ }
 {
     let h = header_of(t);
     let size = Section::LEG as usize;
-    let first = h.legoffset as usize;
+    let first = at as usize;
     let second = first + size;
     let third = second + size;
     let legs = [
@@ -588,6 +588,14 @@ pub fn strategy_of(t: &[u8]) -> Strategy
         count,
         settings,
     }
+}
+
+// The opening that a tape holds.
+pub fn strategy_of(t: &[u8]) -> Strategy
+    ensures { λ r. ⌜ opening (openingOf r) ≡ opening (strategyIn (now (t .entry))) ⌝ }
+{
+    let h = header_of(t);
+    strategy_from(t, h.legoffset)
 }
 
 // ---- the reader

@@ -1,3 +1,4 @@
 pub mod DigitLaws
 pub mod SignLaws
 pub mod WroteLaws
+pub mod AnswerLaws

@@ -7,7 +7,7 @@ use lib.ListN.{length, take, drop, getD, set, length-append, drop-of-length-le}
 use lib.Seq.{sets, sets-eq, length-sets, drop-cons, take-at}
 use Rattle.rules.specs.Print.{Line}
 use Rattle.text.specs.Text.{lineText}
-use Rattle.text.specs.Places.{Wrote, Printed}
+use Rattle.text.specs.Places.{Wrote, Put, Printed}
 
 sets-append : (xs ys l : List ℕ) (at : ℕ) → sets l at (xs ++ ys) ≡ sets (sets l at xs) (at + length xs) ys
 sets-append [] ys l at = let e : at + 0 ≡ at = omega arith in rw e
@@ -28,7 +28,7 @@ pub same : {xs ys l m : List ℕ} {at r : ℕ} → xs ≡ ys → Wrote xs at l r
 same {xs} {ys} {l} {m} {at} {r} e w = subst (λ (bs : List ℕ). Wrote bs at l r m) e w
 
 -- a write from the start on leaves what stands behind it
-pub whole : {bs l m : List ℕ} {r : ℕ} → Wrote bs 0 l r m → length l ≡ 128 → r ≤ 128 → (r ≡ length bs) × (m ≡ bs ++ drop (length bs) l) × (r ≤ 128) × (length m ≡ 128)
+pub whole : {bs l m : List ℕ} {r : ℕ} → Wrote bs 0 l r m → length l ≡ 128 → r ≤ 128 → Put bs l r m
 whole {bs} {l} {m} {r} w e h =
     let z : 0 + length bs ≡ length bs = omega arith in
     (w .end ∙ z, w .holds ∙ rw z at (sets-eq bs l 0 (omega (arith, w .end))), h, rw (w .holds) (length-sets l 0 bs ∙ e))

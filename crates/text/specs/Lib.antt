@@ -2,3 +2,4 @@ pub mod Ascii
 pub mod Text
 pub mod Places
 pub mod OwnCase
+pub mod Answers

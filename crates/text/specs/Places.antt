@@ -12,6 +12,10 @@ pub record Wrote (bytes : List ℕ) (at : ℕ) (l : List ℕ) (r : ℕ) (m : Lis
   pub end : r ≡ at + length bytes
   pub holds : m ≡ sets l at bytes
 
--- the buffer m is a line's bytes and then those of the buffer l behind them, and r is the line's length, for which there is room
+-- the buffer m is these bytes and then those of the buffer l behind them, and r is how many they are, for which there is room
+abbrev pub Put : List ℕ → List ℕ → ℕ → List ℕ → Type 0
+Put bytes l r m = (r ≡ length bytes) × (m ≡ bytes ++ drop (length bytes) l) × (r ≤ 128) × (length m ≡ 128)
+
+-- the same of a line's bytes
 abbrev pub Printed : Line → List ℕ → ℕ → List ℕ → Type 0
-Printed line l r m = (r ≡ length (lineText line)) × (m ≡ lineText line ++ drop (length (lineText line)) l) × (r ≤ 128) × (length m ≡ 128)
+Printed line = Put (lineText line)

@@ -1,17 +1,22 @@
-// Document 01, "Tape": the bytes of an output line, written at the start of a lent buffer.
+// The bytes of an output line, of tapeprint (document 01, "Tape") or of live, written at the start of a lent buffer.
 ghost use mathlib.Core.Path.{_≡_};
-ghost use mathlib.Core.List.{[], _∷_};
+ghost use mathlib.Core.List.{[], _∷_, _++_};
 ghost use Prim.Native.Nat.{_+_, _<_, _≤_};
 ghost use lib.IntN.{pos, natAbs};
 ghost use lib.ListN.{length};
 ghost use lib.Signed.{ltZ};
 ghost use Rattle.rules.specs.Print.{titleLine, fillLine, refusedLine, lastLine};
-ghost use Rattle.types.specs.View.{rankOf, contraOf, fillOf};
-ghost use Rattle.text.specs.Text.{digit, digits, signedDigits, rankLetter, contraNumber};
-ghost use Rattle.text.specs.Places.{Wrote, Printed};
+ghost use Rattle.rules.specs.Outcome.{Ended};
+ghost use Rattle.types.specs.View.{rankOf, contraOf, fillOf, causeOf, outcomeOf, openedOf};
+ghost use Rattle.text.specs.Text.{digit, digits, signedDigits, rankLetter, contraNumber, after};
+ghost use Rattle.text.specs.Places.{Wrote, Put, Printed};
+ghost use Rattle.text.specs.Answers.{outcomeText, openingText};
 ghost use Rattle.text.specs.OwnCase.{OwnCaseText};
+use types::Cause;
 use types::Contra;
 use types::Fill;
+use types::Opened;
+use types::Outcome;
 use types::Rank;
 
 // The own case's five lines are the bytes that document 01 shows.
@@ -154,7 +159,30 @@ fn put_contra(out: &mut [u8; 128], at: usize, contra: Contra) -> usize
     put_next(out, at, contra_number(contra) as u64)
 }
 
-// ---- the lines
+// ---- a word with numbers, and the line's end
+
+// One number.
+fn put_one(out: &mut [u8; 128], word: &[u8], n: u64) -> usize
+    requires { ⌜ (length (now out) ≡ 128) × (length (now word) ≤ 80) ⌝ }
+    ensures { λ r. ⌜ Put (now (word .entry) ++ after (digits n ∷ [])) (now (out .entry)) r (now (out .exit)) ⌝ }
+{
+    let at = put_word(out, 0, word);
+    let at = put_next(out, at, n);
+    put_byte(out, at, b'\n')
+}
+
+// Two numbers.
+fn put_two(out: &mut [u8; 128], word: &[u8], first: u64, second: u64) -> usize
+    requires { ⌜ (length (now out) ≡ 128) × (length (now word) ≤ 80) ⌝ }
+    ensures { λ r. ⌜ Put (now (word .entry) ++ after (digits first ∷ digits second ∷ [])) (now (out .entry)) r (now (out .exit)) ⌝ }
+{
+    let at = put_word(out, 0, word);
+    let at = put_next(out, at, first);
+    let at = put_next(out, at, second);
+    put_byte(out, at, b'\n')
+}
+
+// ---- the lines of a tape
 
 // The title line.
 pub fn put_title(out: &mut [u8; 128]) -> usize
@@ -185,10 +213,7 @@ pub fn put_refused(out: &mut [u8; 128], position: u64, number: u32) -> usize
     requires { ⌜ length (now out) ≡ 128 ⌝ }
     ensures { λ r. ⌜ Printed (refusedLine position number) (now (out .entry)) r (now (out .exit)) ⌝ }
 {
-    let at = put_word(out, 0, b"refused");
-    let at = put_next(out, at, position);
-    let at = put_next(out, at, number as u64);
-    put_byte(out, at, b'\n')
+    put_two(out, b"refused", position, number as u64)
 }
 
 // "the last line counts open orders and responses".
@@ -201,4 +226,44 @@ pub fn put_last(out: &mut [u8; 128], orders: u64, answers: u64) -> usize
     let at = put_word(out, at, b" answers");
     let at = put_next(out, at, answers);
     put_byte(out, at, b'\n')
+}
+
+// ---- the lines of live
+
+// The end of an auction, by its cause.
+fn put_ended(out: &mut [u8; 128], cause: Cause, fills: u32) -> usize
+    requires { ⌜ length (now out) ≡ 128 ⌝ }
+    ensures { λ r. ⌜ Put (outcomeText (Ended (causeOf cause) fills)) (now (out .entry)) r (now (out .exit)) ⌝ }
+{
+    match cause {
+        Cause::Time => put_one(out, b"ended time", fills as u64),
+        Cause::Order => put_one(out, b"ended order", fills as u64),
+        Cause::Legs => put_one(out, b"ended legs", fills as u64),
+    }
+}
+
+// The outcome of a message.
+pub fn put_outcome(out: &mut [u8; 128], o: Outcome) -> usize
+    requires { ⌜ length (now out) ≡ 128 ⌝ }
+    ensures { λ r. ⌜ Put (outcomeText (outcomeOf o)) (now (out .entry)) r (now (out .exit)) ⌝ }
+{
+    match o {
+        Outcome::Noted(fills) => put_one(out, b"noted", fills as u64),
+        Outcome::Placed(units, fills) => put_two(out, b"placed", units as u64, fills as u64),
+        Outcome::Begun(deadline) => put_one(out, b"begun", deadline),
+        Outcome::Joined(units) => put_one(out, b"joined", units),
+        Outcome::Ended(cause, fills) => put_ended(out, cause, fills),
+        Outcome::Refused(number) => put_one(out, b"refused", number as u64),
+    }
+}
+
+// The answer to an opening.
+pub fn put_opening(out: &mut [u8; 128], o: Opened) -> usize
+    requires { ⌜ length (now out) ≡ 128 ⌝ }
+    ensures { λ r. ⌜ Put (openingText (openedOf o)) (now (out .entry)) r (now (out .exit)) ⌝ }
+{
+    if o.number == 0 {
+        return put_word(out, 0, b"opened\n");
+    }
+    put_one(out, b"refused", o.number as u64)
 }

@@ -1,10 +1,7 @@
 use borrow.Author.Needs.{needs}
 use Rattle.text.proofs.WroteLaws.{join, whole}
-use Rattle.text.proofs.put_refused.Statement.{statement}
-use Rattle.text.proofs.put_refused.Tie as tie
-
-slice-aggregate-put-word : tie.Need-slice-aggregate-put-word
-slice-aggregate-put-word c = search needs
+use Rattle.text.proofs.put_two.Statement.{statement}
+use Rattle.text.proofs.put_two.Tie as tie
 
 put-word-requires : tie.Need-put-word-requires
 put-word-requires c κs = search needs
@@ -25,11 +22,10 @@ returns c =
     let W = P .before .before in
     whole (join (W .put-word .ensures .0) (join (P .put-next .ensures .0) (join (N .put-next2 .ensures .0) (c .put-byte .ensures .0)))) (search needs) (search needs)
 
-pub put-refused-spec : {M : Type 1} → statement M
-put-refused-spec =
+pub put-two-spec : {M : Type 1} → statement M
+put-two-spec =
     tie.close
     (tie.spec
-    slice-aggregate-put-word
     put-word-requires
     put-next-requires
     put-next-requires-2

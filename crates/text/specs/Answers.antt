@@ -1,0 +1,27 @@
+-- What live answers to an opening and to a message: a line of one to three words.
+use mathlib.Core.List.{List, [], _∷_, _++_}
+use Prim.Native.Nat.{ℕ}
+use Rattle.rules.specs.Outcome.{Cause, byTime, byOrder, byLegs, Outcome, Noted, Placed, Begun, Joined, Ended, Refused}
+use Rattle.rules.specs.Run.{Opened, refusedOpening, started}
+use Rattle.text.specs.Ascii.{ascii}
+use Rattle.text.specs.Text.{digits, after}
+
+-- "cause: time, order or legs"
+abbrev pub causeWord : Cause → List ℕ
+causeWord byTime = ascii "time"
+causeWord byOrder = ascii "order"
+causeWord byLegs = ascii "legs"
+
+-- an outcome "with its own numbers"
+abbrev pub outcomeText : Outcome → List ℕ
+outcomeText (Noted n) = ascii "noted" ++ after (digits n ∷ [])
+outcomeText (Placed u n) = ascii "placed" ++ after (digits u ∷ digits n ∷ [])
+outcomeText (Begun t) = ascii "begun" ++ after (digits t ∷ [])
+outcomeText (Joined u) = ascii "joined" ++ after (digits u ∷ [])
+outcomeText (Ended c n) = ascii "ended" ++ after (causeWord c ∷ digits n ∷ [])
+outcomeText (Refused n) = ascii "refused" ++ after (digits n ∷ [])
+
+-- an opening
+abbrev pub openingText : Opened → List ℕ
+openingText (refusedOpening n) = ascii "refused" ++ after (digits n ∷ [])
+openingText (started s) = ascii "opened" ++ after []
