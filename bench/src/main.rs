@@ -1,0 +1,305 @@
+//! The proved library and the second program on the same tapes: how long each takes.
+
+mod made;
+
+use made::Case;
+use second::engine::Outcome;
+use second::gen::PROFILES;
+use second::print::{run_tape, tapeprint};
+use std::hint::black_box;
+use std::ops::Range;
+use std::process::ExitCode;
+use std::time::Instant;
+
+const USAGE: &str = "\
+usage: bench                       the tables of docs/BENCHMARK.md
+       bench --rounds N            the same, in so many rounds
+       bench --check               only whether both print the same
+       bench --run PROFILE TIMES   the library alone on a profile's tapes, for a profiler";
+const ROUNDS: usize = 60;
+/// Runs of one engine before the other's turn, so that what the other left in the caches matters less.
+const RUNS: usize = 3;
+const SEEDS: Range<u64> = 1..21;
+
+/// Nanoseconds of the proved library and of the plain program.
+#[derive(Clone, Copy)]
+struct Times {
+    proved: f64,
+    plain: f64,
+}
+
+impl Times {
+    const NEVER: Times = Times { proved: f64::INFINITY, plain: f64::INFINITY };
+
+    fn with(self, other: Times, of: impl Fn(f64, f64) -> f64) -> Times {
+        Times { proved: of(self.proved, other.proved), plain: of(self.plain, other.plain) }
+    }
+
+    fn per(self, count: usize) -> Times {
+        self.with(self, |ns, _| ns / count as f64)
+    }
+
+    /// What all of the tapes take, each at its best.
+    fn sum<'a>(tracks: impl Iterator<Item = &'a Track>) -> Times {
+        let best = |track: &Track| track.rounds.iter().fold(Times::NEVER, |best, round| best.with(*round, f64::min));
+        tracks.fold(Times { proved: 0.0, plain: 0.0 }, |sum, track| sum.with(best(track), |a, b| a + b))
+    }
+
+    fn ratio(self) -> f64 {
+        self.proved / self.plain
+    }
+}
+
+/// A tape, what the second program says of it, and each engine's best time.
+struct Track {
+    tape: Vec<u8>,
+    expected: String,
+    /// Where the library prints to.
+    out: Vec<u8>,
+    messages: usize,
+    fills: usize,
+    refused: usize,
+    /// Whether an auction is pending at the end.
+    pending: bool,
+    /// The best of each round.
+    rounds: Vec<Times>,
+}
+
+impl Track {
+    fn new(tape: Vec<u8>) -> Track {
+        let expected = tapeprint(&tape);
+        let (mut messages, mut fills, mut refused) = (0, 0, 0);
+        let end = run_tape(&tape, |_, outcome, records| {
+            messages += 1;
+            fills += records.len();
+            refused += usize::from(matches!(outcome, Outcome::Refused { .. }));
+        });
+        let pending = end.is_ok_and(|engine| engine.auction().is_some());
+        let out = vec![0; expected.len() + 1];
+        Track { tape, expected, out, messages, fills, refused, pending, rounds: Vec::new() }
+    }
+
+    fn run_library(&mut self) -> usize {
+        tumghavi::run_tape(black_box(&self.tape), &mut self.out)
+    }
+
+    fn agrees(&mut self) -> bool {
+        let written = self.run_library();
+        &self.out[..written] == self.expected.as_bytes()
+    }
+
+    fn time_proved(&mut self, round: usize) {
+        let start = Instant::now();
+        black_box(self.run_library());
+        let best = &mut self.rounds[round].proved;
+        *best = best.min(start.elapsed().as_nanos() as f64);
+    }
+
+    fn time_plain(&mut self, round: usize) {
+        let start = Instant::now();
+        black_box(tapeprint(black_box(&self.tape)));
+        let best = &mut self.rounds[round].plain;
+        *best = best.min(start.elapsed().as_nanos() as f64);
+    }
+}
+
+/// One engine on all of the tapes, then the other: one tape again and again is what a processor learns by heart.
+fn time(tracks: &mut [Track], round: usize) {
+    tracks.iter_mut().for_each(|track| track.rounds.push(Times::NEVER));
+    (0..RUNS).for_each(|_| tracks.iter_mut().for_each(|track| track.time_proved(round)));
+    (0..RUNS).for_each(|_| tracks.iter_mut().for_each(|track| track.time_plain(round)));
+}
+
+/// Runs something further down the stack: where it stands matters to the library's copies, so each round has it elsewhere.
+#[inline(never)]
+fn deeper(frames: usize, run: &mut dyn FnMut()) {
+    let frame = black_box([0u8; 80]);
+    match frames {
+        0 => run(),
+        _ => deeper(frames - 1, run),
+    }
+    black_box(&frame);
+}
+
+/// The tapes of a profile.
+struct Group {
+    name: &'static str,
+    tracks: Vec<Track>,
+}
+
+impl Group {
+    fn turned_back(&self) -> bool {
+        self.tracks.iter().filter(|track| track.messages == 0).count() * 2 > self.tracks.len()
+    }
+}
+
+/// A case's tape without and with what it is about.
+struct Pair {
+    case: Case,
+    tracks: [Track; 2],
+}
+
+impl Pair {
+    /// What each message, or fill, costs that the second tape has more.
+    fn times(&self) -> Times {
+        let times =
+            Times { proved: self.difference(|round| round.proved), plain: self.difference(|round| round.plain) };
+        times.per(self.case.messages + self.case.fills)
+    }
+
+    /// How much longer the second tape takes in one round: the median of the fastest quarter of the rounds.
+    fn difference(&self, engine: fn(&Times) -> f64) -> f64 {
+        let [without, with] = self.tracks.each_ref().map(|track| track.rounds.iter().map(engine));
+        let mut rounds: Vec<(f64, f64)> = with.zip(without).map(|(a, b)| (a + b, a - b)).collect();
+        rounds.sort_by(|a, b| a.0.total_cmp(&b.0));
+        rounds.truncate(rounds.len().div_ceil(4));
+        rounds.sort_by(|a, b| a.1.total_cmp(&b.1));
+        rounds[rounds.len() / 2].1
+    }
+
+    /// The tapes are what the case says.
+    fn is_as_said(&self) -> bool {
+        let [without, with] = &self.tracks;
+        let ends = |track: &Track| {
+            track.expected.lines().last() == Some(&self.case.last_line) && track.pending == self.case.pending
+        };
+        ends(without)
+            && ends(with)
+            && without.refused == 0
+            && with.refused == self.case.refused
+            && with.messages == without.messages + self.case.messages
+            && with.fills == without.fills + self.case.fills
+    }
+}
+
+struct Bench {
+    groups: Vec<Group>,
+    pairs: Vec<Pair>,
+}
+
+impl Bench {
+    /// All tapes, once it is seen that both engines print the same for each.
+    fn checked() -> Result<Bench, String> {
+        let tracks = |profile: &second::gen::Profile| SEEDS.map(|seed| Track::new(profile.tape(seed))).collect();
+        let pair = |mut case: Case| Pair { tracks: std::mem::take(&mut case.tapes).map(Track::new), case };
+        let mut bench = Bench {
+            groups: PROFILES.iter().map(|profile| Group { name: profile.name, tracks: tracks(profile) }).collect(),
+            pairs: made::cases().into_iter().map(pair).collect(),
+        };
+        for Group { name, tracks } in &mut bench.groups {
+            claim(tracks.iter_mut().all(Track::agrees), || format!("{name}: the outputs differ"))?;
+        }
+        for pair in &mut bench.pairs {
+            claim(pair.tracks.iter_mut().all(Track::agrees), || format!("{}: the outputs differ", pair.case))?;
+            claim(pair.is_as_said(), || format!("{}: not as said", pair.case))?;
+        }
+        Ok(bench)
+    }
+
+    fn tracks(&mut self) -> impl Iterator<Item = &mut [Track]> {
+        let groups = self.groups.iter_mut().map(|group| &mut group.tracks[..]);
+        groups.chain(self.pairs.iter_mut().map(|pair| &mut pair.tracks[..]))
+    }
+
+    fn print(&self) {
+        let (turned_back, others): (Vec<&Group>, Vec<&Group>) = self.groups.iter().partition(|g| g.turned_back());
+        println!("## By profile\n");
+        println!(
+            "| Profile | Messages | Fills | Proved, messages/s | Plain, messages/s | Proved, ns | Plain, ns | Ratio |"
+        );
+        println!("|---|--:|--:|--:|--:|--:|--:|--:|");
+        others.iter().for_each(|group| print_profile(group.name, group.tracks.iter()));
+        print_profile("all of these", others.iter().flat_map(|group| &group.tracks));
+        println!("\nTapes of which most are turned back before their first message:\n");
+        println!("| Profile | Tapes | Proved, ns a tape | Plain, ns a tape | Ratio |\n|---|--:|--:|--:|--:|");
+        for Group { name, tracks } in turned_back {
+            let times = Times::sum(tracks.iter()).per(tracks.len());
+            let Times { proved, plain } = times;
+            println!("| {name} | {} | {proved:.0} | {plain:.0} | {:.1} |", tracks.len(), times.ratio());
+        }
+        self.pairs.chunk_by(|a, b| a.case.table == b.case.table).for_each(print_pairs);
+    }
+}
+
+fn print_profile<'a>(name: &str, tracks: impl Iterator<Item = &'a Track> + Clone) {
+    let messages = tracks.clone().map(|track| track.messages).sum();
+    let fills: usize = tracks.clone().map(|track| track.fills).sum();
+    let times = Times::sum(tracks).per(messages);
+    let Times { proved, plain } = times;
+    let speeds = format!("{:.0} | {:.0}", 1e9 / proved, 1e9 / plain);
+    println!("| {name} | {messages} | {fills} | {speeds} | {proved:.0} | {plain:.0} | {:.1} |", times.ratio());
+}
+
+/// One table, with a cell for each pair.
+fn print_pairs(pairs: &[Pair]) {
+    let mut columns: Vec<&str> = Vec::new();
+    for pair in pairs {
+        if !columns.contains(&pair.case.column.as_str()) {
+            columns.push(&pair.case.column);
+        }
+    }
+    println!("\n## {}\n", pairs[0].case.table);
+    println!("Nanoseconds, proved / plain = ratio.\n");
+    println!("| | {} |\n|---|{}", columns.join(" | "), "--:|".repeat(columns.len()));
+    for row in pairs.chunk_by(|a, b| a.case.row == b.case.row) {
+        let cell = |column: &&str| match row.iter().find(|pair| pair.case.column == *column).map(Pair::times) {
+            Some(times) => format!("{:.0} / {:.0} = {:.1}", times.proved, times.plain, times.ratio()),
+            None => String::new(),
+        };
+        println!("| {} | {} |", row[0].case.row, columns.iter().map(cell).collect::<Vec<_>>().join(" | "));
+    }
+}
+
+fn claim(holds: bool, what: impl Fn() -> String) -> Result<(), String> {
+    match holds {
+        true => Ok(()),
+        false => Err(what()),
+    }
+}
+
+/// The library alone on a profile's tapes; how many messages it was given.
+fn run_alone(name: &str, times: usize) -> Result<usize, String> {
+    let profile = PROFILES.iter().find(|profile| profile.name == name).ok_or(format!("no such profile: {name}"))?;
+    let mut tracks: Vec<Track> = SEEDS.map(|seed| Track::new(profile.tape(seed))).collect();
+    for _ in 0..times {
+        tracks.iter_mut().for_each(|track| {
+            black_box(track.run_library());
+        });
+    }
+    Ok(times * tracks.iter().map(|track| track.messages).sum::<usize>())
+}
+
+fn run(arguments: &[&str]) -> Result<(), String> {
+    let number = |word: &str| word.parse::<usize>().map_err(|_| format!("not a number: {word}"));
+    let rounds = match arguments {
+        [] => ROUNDS,
+        ["--rounds", rounds] => number(rounds)?.max(1),
+        ["--check"] => {
+            println!("{} tapes agree", Bench::checked()?.tracks().map(|tracks| tracks.len()).sum::<usize>());
+            return Ok(());
+        }
+        ["--run", profile, times] => {
+            println!("{} messages", run_alone(profile, number(times)?)?);
+            return Ok(());
+        }
+        _ => return Err(USAGE.into()),
+    };
+    let mut bench = Bench::checked()?;
+    for round in 0..rounds {
+        deeper(round, &mut || bench.tracks().for_each(|tracks| time(tracks, round)));
+    }
+    bench.print();
+    Ok(())
+}
+
+fn main() -> ExitCode {
+    let arguments: Vec<String> = std::env::args().skip(1).collect();
+    let words: Vec<&str> = arguments.iter().map(String::as_str).collect();
+    match run(&words) {
+        Ok(()) => ExitCode::SUCCESS,
+        Err(what) => {
+            eprintln!("bench: {what}");
+            ExitCode::FAILURE
+        }
+    }
+}
