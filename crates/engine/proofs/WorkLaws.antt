@@ -15,8 +15,9 @@ use Rattle.rules.specs.State.{State, taken}
 use Rattle.rules.specs.Turn.{Fill}
 use Rattle.rules.specs.Outcome.{byTime, byOrder, byLegs}
 use Rattle.rules.specs.Refusals.{leastRoom, everyRow, kindRow, refusal}
-use Rattle.rules.specs.Execution.{Reply, still}
-use Rattle.rules.specs.Step.{Act, goesOn, begins, joining, ends, Intake, takeIn, steps, ending, follow, outcomeOf, recordsOf, accepted, turnedBack, step}
+use Rattle.rules.specs.Book.{Entry, isHeld, any, only}
+use Rattle.rules.specs.Execution.{legsPass, Reply, still, serve}
+use Rattle.rules.specs.Step.{Act, goesOn, begins, joining, ends, Intake, takeIn, liveOf, steps, ending, follow, outcomeOf, recordsOf, accepted, turnedBack, step}
 use Rattle.rules.proofs.RowLaws.{isNumbered, none-of}
 use Rattle.rules.proofs.BoundLaws.{records-fit}
 use Rattle.types.specs.View.{entryAt, stateOf, bodyOf, messageOf}
@@ -27,9 +28,10 @@ use Rattle.types.proofs.TableLaws.{from-length}
 use Rattle.intake.specs.Taken.{actOf, numbered}
 use Rattle.engine.specs.declared.Subject.{Subject}
 use Rattle.engine.specs.declared.Work.{Work}
-use Rattle.engine.specs.Work.{IsSubject, outcomeAt, emits, lastState, lastOutcome, Ready, IsRefused, IsAccepted, Starts, IsNext, IsFinish}
+use Rattle.engine.specs.Work.{isIdleBook, isQuiet, IsSubject, outcomeAt, emits, lastState, lastOutcome, Ready, IsRefused, IsAccepted, Starts, IsNext, IsFinish}
 use Rattle.types.specs.View.{outcomeOf as outcomeShown}
 use Rattle.phases.specs.Rest as R
+use Rattle.phases.proofs.RestLaws.{serve-still}
 
 -- ---- the table's first row
 
@@ -53,7 +55,7 @@ accepted-is s m room h =
     let n = none-of (everyRow s m room ++ kindRow s (m .body)) (rows-numbered s (m .body)) h in
     (ltb-false room leastRoom (n .0), ltb-false mostTime (m .time) (neither (ltb mostTime (m .time)) (ltb (m .time) (s .clock .time)) (n .1 .0)), ltb-false mostNumber (s .clock .next) (n .1 .1 .0))
 
-numbered-taken : (s : State) (time : ℕ) → time ≤ mostTime → s .clock .next ≤ mostNumber → numbered s time ≡ taken s time
+pub numbered-taken : (s : State) (time : ℕ) → time ≤ mostTime → s .clock .next ≤ mostNumber → numbered s time ≡ taken s time
 numbered-taken s time t n =
     let a : min (s .clock .next) mostNumber ≡ s .clock .next = omega arith in
     let b : min time mostTime ≡ time = omega arith in
@@ -88,6 +90,34 @@ follow-quiet s (suc zero) h p = refl
 follow-quiet s (suc (suc zero)) h p = refl
 follow-quiet s (suc (suc (suc n))) h p = absurd (omega arith)
 
+-- where no order is held, none goes live
+none-held : (es : List Entry) → any (λ e. isHeld (e .stage)) es ≡ false → only (λ e. isHeld (e .stage)) es ≡ []
+unfolding only
+none-held [] h = refl
+none-held (e ∷ es) h = by (isHeld (e .stage)) refl h (none-held es)
+  where
+    by : (x : Bool) → isHeld (e .stage) ≡ x → (x || any (λ f. isHeld (f .stage)) es) ≡ false → (any (λ f. isHeld (f .stage)) es ≡ false → only (λ f. isHeld (f .stage)) es ≡ []) → only (λ f. isHeld (f .stage)) (e ∷ es) ≡ []
+    by true q h′ g = absurd (true≢false h′)
+    by false q h′ g = rw q (g h′)
+
+idle-steps : (s : Held) → isIdleBook (s .strategy) (s .market) (stateOf s .book) ≡ true → steps (stateOf s) ≡ still (stateOf s)
+unfolding steps serve
+idle-steps s h = by (any (λ e. isHeld (e .stage)) (stateOf s .book)) refl h
+  where
+    by : (x : Bool) → any (λ e. isHeld (e .stage)) (stateOf s .book) ≡ x → (not x && R.isStill (s .strategy) (s .market) (stateOf s .book)) ≡ true → steps (stateOf s) ≡ still (stateOf s)
+    by true q h′ = absurd (true≢false (sym h′))
+    by false q h′ = rw (none-held (stateOf s .book) q) (serve-still legsPass (liveOf (λ e. e .buy) (stateOf s .book) ++ liveOf (λ e. not (e .buy)) (stateOf s .book)) (stateOf s) (not-true (any (R.trades (s .strategy) (s .market)) (stateOf s .book)) h′))
+
+-- a message that sets off no turn
+pub quiet-still : (s : Held) (act : ℕ) → isQuiet act (s .auction .pending) (s .strategy) (s .market) (stateOf s .book) ≡ true → follow (stateOf s) (actOf act) ≡ still (stateOf s)
+quiet-still s act h = by (ltb 2 act) refl (eqb act 0 && not (s .auction .pending)) refl h
+  where
+    by : (x : Bool) → ltb 2 act ≡ x → (y : Bool) → (eqb act 0 && not (s .auction .pending)) ≡ y → pick x false (pick y (isIdleBook (s .strategy) (s .market) (stateOf s .book)) true) ≡ true
+        → follow (stateOf s) (actOf act) ≡ still (stateOf s)
+    by true p y q h′ = absurd (true≢false (sym h′))
+    by false p true q h′ = sym (follow-steps s act q) ∙ idle-steps s h′
+    by false p false q h′ = sym (follow-quiet s act (ltb-false 2 act p) q)
+
 -- ---- the start
 
 outcome-is : (b : Body) (o : Subject) → IsSubject b o → (a : Act) (s : State) (n : ℕ) → outcomeAt o a s n ≡ outcomeOf b a s n
@@ -96,7 +126,7 @@ outcome-is b o i begins s n = refl
 outcome-is b o i joining s n = refl
 outcome-is b o i (ends c) s n = refl
 
-step-accepted : (s : State) (m : Message) (room : ℕ) → refusal s m room ≡ 0 → step s m room ≡ accepted s m
+pub step-accepted : (s : State) (m : Message) (room : ℕ) → refusal s m room ≡ 0 → step s m room ≡ accepted s m
 unfolding step
 step-accepted s m room h = rw h refl
 

@@ -1,12 +1,12 @@
 -- The work of a message: what it gives still, and what it comes to.
 use mathlib.Core.Path.{_≡_}
-use mathlib.Core.Bool.{false}
+use mathlib.Core.Bool.{Bool, true, false, _&&_, not}
 use mathlib.Core.List.{List, [], _∷_}
 use Prim.Native.Nat.{ℕ, _+_, _≤_, _<_, min}
-use lib.Dec.{eqb}
+use lib.Dec.{eqb, ltb}
 use lib.ListN.{length}
 use Rattle.rules.specs.Basics.{pick}
-use Rattle.rules.specs.Book.{find, unitsOf, unitsIf, isQueued}
+use Rattle.rules.specs.Book.{Entry, isHeld, any, find, unitsOf, unitsIf, isQueued}
 use Rattle.rules.specs.Messages.{Body}
 use Rattle.rules.specs.State.{State}
 use Rattle.rules.specs.Turn.{Fill}
@@ -14,6 +14,8 @@ use Rattle.rules.specs.Outcome.{Outcome, Noted, Placed, Begun, Joined, Ended, R
 use Rattle.rules.specs.Execution.{still}
 use Rattle.rules.specs.Refusals.{leastRoom, refusal}
 use Rattle.rules.specs.Step.{Act, goesOn, begins, joining, ends, takeIn, follow, plain, deadlineOf, step}
+use Rattle.types.specs.declared.Strategy.{Strategy}
+use Rattle.types.specs.declared.Market.{Market}
 use Rattle.types.specs.declared.State.{State as Held}
 use Rattle.types.specs.declared.Message.{Message}
 use Rattle.types.specs.declared.Answer.{Answer}
@@ -22,6 +24,14 @@ use Rattle.intake.specs.Taken.{actOf, numbered}
 use Rattle.phases.specs.Rest as R
 use Rattle.engine.specs.declared.Subject.{Subject}
 use Rattle.engine.specs.declared.Work.{Work}
+
+-- no order has a turn with no auction pending: none is held, and none trades with the legs
+abbrev pub isIdleBook : Strategy → Market → List Entry → Bool
+isIdleBook g m es = not (any (λ e. isHeld (e .stage)) es) && R.isStill g m es
+
+-- an accepted message that does this to the auction sets off no turn
+abbrev pub isQuiet : ℕ → Bool → Strategy → Market → List Entry → Bool
+isQuiet act pending g m es = pick (ltb 2 act) false (pick (eqb act 0 && not pending) (isIdleBook g m es) true)
 
 -- "Placed answers an order that neither begins, joins nor ends an auction; Noted any other accepted message that ends none", whatever the state and the fill count
 abbrev pub plainOf : Subject → State → ℕ → Outcome
@@ -76,6 +86,7 @@ pub record IsRefused (s : Held) (number : ℕ) (w : Work) : Type 0 where
   pub given : w .given ≡ 0
   pub act : w .act ≡ 0
   pub order : w .subject .order ≡ false
+  pub id : w .subject .id ≡ 0
 
 -- the work of another, whose number and time are not above the greatest
 pub record IsAccepted (s : Held) (m : Message) (w : Work) : Type 0 where

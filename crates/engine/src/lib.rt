@@ -4,15 +4,15 @@ ghost use mathlib.Core.Bool.{true, false};
 ghost use mathlib.Core.List.{[], _∷_};
 ghost use Prim.Native.Nat.{ℕ, _+_, _<_, min};
 ghost use Rattle.rules.specs.Basics.{pick};
-ghost use Rattle.rules.specs.Book.{Entry, find, unitsOf};
+ghost use Rattle.rules.specs.Book.{Entry, isHeld, find, unitsOf, any};
 ghost use Rattle.rules.specs.State.{State as Shown};
 ghost use Rattle.rules.specs.Refusals.{leastRoom};
 ghost use Rattle.rules.specs.Step.{follow, deadlineOf};
 ghost use Rattle.types.specs.View.{shownBy, auctionOf, stateOf, bodyOf, fillOf, outcomeOf};
-ghost use Rattle.scan.specs.Columns.{HasIds, HasUnits};
+ghost use Rattle.scan.specs.Columns.{HasIds, HasUnits, HasStages, HasBuys, HasPrices};
 ghost use Rattle.intake.specs.Taken.{actOf};
 ghost use Rattle.phases.specs.Rest.{Goes, isIdle, rest, emits, isAtHand, recordAt, later};
-ghost use Rattle.engine.specs.Work.{IsSubject, plainOf, outcomeAt, answerAt, IsRefused, IsAccepted, Starts, IsNext, IsFinish};
+ghost use Rattle.engine.specs.Work.{isIdleBook, isQuiet, IsSubject, plainOf, outcomeAt, answerAt, IsRefused, IsAccepted, Starts, IsNext, IsFinish};
 use intake::Act;
 use phases::Phases;
 use types::Answer;
@@ -20,9 +20,11 @@ use types::Auction;
 use types::Body;
 use types::Cause;
 use types::Fill;
+use types::Market;
 use types::Message;
 use types::Outcome;
 use types::State;
+use types::Strategy;
 
 // Whether a message is an order, and its id.
 pub struct Subject {
@@ -42,8 +44,62 @@ pub struct Work {
 
 // ---- a message begins
 
+// Whether an open order is held.
+fn some_held(stages: &[u8; 64], n: usize) -> bool
+    ensures { λ r. ⌜ ((f : ℕ → Entry) → HasStages f (now (stages .entry)) → r ≡ any (λ e. isHeld (e .stage)) (shownBy f n)) ⌝ }
+{
+    let m = scan::shown(n);
+    let mut k = 0;
+    while k < m {
+        if scan::is_held(stages[k]) {
+            return true;
+        }
+        k += 1;
+    }
+    false
+}
+
+// Whether no order has a turn with no auction pending: none is held, and none trades with the legs.
+fn is_idle<'a>(
+    stages: &'a [u8; 64],
+    buys: &'a [bool; 64],
+    prices: &'a [u32; 64],
+    n: usize,
+    strategy: Strategy,
+    market: Market,
+) -> bool
+    ensures { λ r. ⌜ ((f : ℕ → Entry) → HasStages f (now (stages .entry)) → HasBuys f (now (buys .entry)) → HasPrices f (now (prices .entry)) → r ≡ isIdleBook strategy market (shownBy f n)) ⌝ }
+{
+    if some_held(stages, n) {
+        return false;
+    }
+    phases::is_still(stages, buys, prices, n, strategy, market)
+}
+
+// Whether an accepted message sets off no turn.
+pub fn is_quiet<'a>(
+    stages: &'a [u8; 64],
+    buys: &'a [bool; 64],
+    prices: &'a [u32; 64],
+    n: usize,
+    strategy: Strategy,
+    market: Market,
+    pending: bool,
+    act: u8,
+) -> bool
+    ensures { λ r. ⌜ ((f : ℕ → Entry) → HasStages f (now (stages .entry)) → HasBuys f (now (buys .entry)) → HasPrices f (now (prices .entry)) → r ≡ isQuiet act pending strategy market (shownBy f n)) ⌝ }
+{
+    if Act::JOINS < act {
+        return false;
+    }
+    if (act == Act::GOES_ON) & !pending {
+        return is_idle(stages, buys, prices, n, strategy, market);
+    }
+    true
+}
+
 // What an accepted message sets off.
-fn follow(s: State, act: u8) -> Phases
+pub fn follow(s: State, act: u8) -> Phases
     ensures { λ r. ⌜ Goes (follow (stateOf s) (actOf act)) r × (isIdle r ≡ false) ⌝ }
 {
     if Act::JOINS < act {
@@ -144,7 +200,22 @@ fn accepted(s: State, m: Message) -> Work
 pub fn start(s: State, m: Message, room: usize) -> Work
     ensures { λ r. ⌜ Starts s m room r ⌝ }
 {
-    let number = refusals::refusal(s, m, room);
+    let strategy = s.strategy;
+    let market = s.market;
+    let auction = s.auction;
+    let clock = s.clock;
+    let number = refusals::refusal(
+        &s.book.ids,
+        &s.book.participants,
+        &s.book.stages,
+        s.book.count,
+        strategy,
+        market,
+        auction,
+        clock,
+        m,
+        room,
+    );
     if number == 0 {
         return accepted(s, m);
     }

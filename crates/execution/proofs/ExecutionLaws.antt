@@ -1,7 +1,7 @@
 -- A turn on the engine's columns is the rules' turn.
 use mathlib.Core.Path.{_≡_, refl, ap, sym, _∙_}
 use mathlib.Core.Bool.{true, false}
-use mathlib.Core.List.{List, [], _∷_, _++_}
+use mathlib.Core.List.{List, [], _∷_}
 use Prim.Native.Nat.{ℕ, zero, suc, _+_, _-_, _≤_, _<_, min}
 use native.Mathlib.Omega.{arith}
 use borrow.Author.Tests.{lt-ltb, le-ltb}
@@ -10,14 +10,13 @@ use lib.ListN.{length, getD, take, drop}
 use Rattle.rules.specs.Basics.{pick, sum}
 use Rattle.rules.specs.Prices.{lower}
 use Rattle.rules.specs.Turn.{places, sizes, turn, fillsOf}
-use Rattle.rules.specs.Execution.{Mode, interest, inside, turnOf, stageAfter, settled, executed, ready, still, executeFound, execute}
-use Rattle.rules.specs.Step.{recordsOf}
+use Rattle.rules.specs.Execution.{Mode, interest, inside, turnOf, stageAfter, settled, executed, ready, still, executeIf, executeFound}
 use Rattle.rules.proofs.TurnLaws.{turn-sum}
 use Rattle.types.specs.declared.Strategy.{Strategy}
 use Rattle.types.specs.declared.Market.{Market}
 use Rattle.types.specs.declared.Book.{Book}
 use Rattle.types.specs.declared.Auction.{Auction}
-use Rattle.types.specs.View.{legCount, strategyOf, marketOf, entryAt, entriesOf, auctionOf}
+use Rattle.types.specs.View.{legCount, strategyOf, marketOf, entryAt, shownBy, entriesOf, auctionOf}
 use Rattle.types.proofs.TableLaws.{from-length}
 use Rattle.book.proofs.SettleLaws.{settled-take}
 use Rattle.turn.specs.Slots.{spots, Under, IsTurn, IsSequence, recordAt, recordsAt}
@@ -26,7 +25,7 @@ use Rattle.turn.specs.Record.{mostGiven}
 use Rattle.turn.proofs.FillLaws.{take-at, records-map, record-slot}
 use Rattle.execution.specs.declared.Batch.{Batch}
 use Rattle.execution.specs.declared.Executed.{Executed}
-use Rattle.execution.specs.Batches.{slotFill, batchFills, offersAt, gaveAt, IsBatch, before, AfterTurn, Leaves}
+use Rattle.execution.specs.Batches.{slotFill, batchFills, offersAt, gaveAt, IsBatch, before, AfterTurn}
 use Rattle.rules.specs.Book as B
 use Rattle.rules.specs.Prices as P
 use Rattle.rules.specs.State as T
@@ -146,31 +145,13 @@ module _ (mode : Mode) (s : Strategy) (m : Market) (b : Book) (a : Auction) (k :
 
 -- ---- by id
 
-append-none : {A : Type 0} (l : List A) → l ++ [] ≡ l
-append-none [] = refl
-append-none (x ∷ l) = ap (λ (m : List _). x ∷ m) (append-none l)
+-- where the entry under an id stands among n, k being the place up to which they were searched
+module _ (mode : Mode) (s : T.State) (f : ℕ → B.Entry) (n id k : ℕ) (e : B.find id (shownBy f n) ≡ pick (ltb k (min n 64)) (B.found (f k)) B.nobody) where
+  pub nobody-there : min n 64 ≤ k → executeFound mode s (B.find id (shownBy f n)) ≡ still s
+  nobody-there h = rw (e, le-ltb k (min n 64) h) refl
 
--- a turn that takes place
-pub turn-leaves : (mode : Mode) (s : Strategy) (m : Market) (b : Book) (a : Auction) (k : ℕ) (r : Executed) (c : T.Clock) → ready mode (before s m b a c) (entryAt b k) ≡ true
-    → AfterTurn mode s m b a k r c → Leaves s (executeFound mode (before s m b a c) (B.found (entryAt b k))) r c
-unfolding recordsOf
-turn-leaves mode s m b a k r c e t = rw e (record { book = t .book; market = t .market; records = t .records ∙ sym (append-none _) })
+  pub not-ready : k < min n 64 → ready mode s (f k) ≡ false → executeFound mode s (B.find id (shownBy f n)) ≡ still s
+  not-ready h r = rw (e, lt-ltb k (min n 64) h, r) refl
 
--- one that does not
-module _ (mode : Mode) (s : Strategy) (m : Market) (b : Book) (a : Auction) (r : Executed) (c : T.Clock) (p : r .book ≡ b) (q : r .market ≡ m) (n : r .batch .count ≡ 0) where
-  pub still-leaves : Leaves s (still (before s m b a c)) r c
-  unfolding recordsOf
-  still-leaves = record { book = ap entriesOf p; market = ap (λ (x : Market). marketOf x (legCount s)) q; records = rw n }
-
-  pub none-leaves : (k : ℕ) → ready mode (before s m b a c) (entryAt b k) ≡ false → Leaves s (executeFound mode (before s m b a c) (B.found (entryAt b k))) r c
-  none-leaves k e = rw e still-leaves
-
--- the entry under an id stands at place k, where the n entries were searched up to there
-module _ (mode : Mode) (s : Strategy) (m : Market) (b : Book) (a : Auction) (id k n : ℕ) (r : Executed) (c : T.Clock) (f : B.find id (entriesOf b) ≡ pick (ltb k (min (b .count) 64)) (B.found (entryAt b k)) B.nobody) (q : n ≡ min (b .count) 64) where
-  pub found-leaves : k < n → Leaves s (executeFound mode (before s m b a c) (B.found (entryAt b k))) r c → Leaves s (execute mode id (before s m b a c)) r c
-  unfolding execute
-  found-leaves h l = let t : ltb k (min (b .count) 64) ≡ true = rw (← q) (lt-ltb k n h) in rw (f, t) l
-
-  pub nobody-leaves : n ≤ k → Leaves s (still (before s m b a c)) r c → Leaves s (execute mode id (before s m b a c)) r c
-  unfolding execute
-  nobody-leaves h l = let t : ltb k (min (b .count) 64) ≡ false = rw (← q) (le-ltb k n h) in rw (f, t) l
+  pub ready-there : k < min n 64 → ready mode s (f k) ≡ true → executeFound mode s (B.find id (shownBy f n)) ≡ executeIf (ltb k 64) mode s (f k)
+  ready-there h r = rw (e, lt-ltb k (min n 64) h, r, lt-ltb k 64 (omega arith)) refl

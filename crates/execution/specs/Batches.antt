@@ -3,17 +3,18 @@ use mathlib.Core.Path.{_≡_}
 use mathlib.Core.Bool.{Bool}
 use mathlib.Core.List.{List, map}
 use Prim.Native.Nat.{ℕ, _+_, _-_, min}
-use lib.ListN.{getD, take}
+use lib.Dec.{ltb}
+use lib.ListN.{getD, take, replicate}
 use Rattle.rules.specs.Basics.{sum}
 use Rattle.rules.specs.Turn.{Offer, places, turn, Fill, fillsOf}
-use Rattle.rules.specs.Execution.{Mode, turnOf, executed, ready, Reply, executeFound, execute}
+use Rattle.rules.specs.Execution.{Mode, turnOf, executed, ready, executeIf, executeFound}
 use Rattle.rules.specs.Book as B
-use Rattle.rules.specs.Step.{recordsOf}
 use Rattle.types.specs.declared.Strategy.{Strategy}
 use Rattle.types.specs.declared.Market.{Market}
 use Rattle.types.specs.declared.Book.{Book}
 use Rattle.types.specs.declared.Auction.{Auction}
-use Rattle.types.specs.View.{legCount, strategyOf, marketOf, entryAt, entriesOf, auctionOf}
+use Rattle.types.specs.View.{legCount, strategyOf, marketOf, entryAt, shownBy, entriesOf, auctionOf}
+use Rattle.scan.specs.Columns.{HasIds, HasStages, HasBuys, HasPrices}
 use Rattle.turn.specs.Open.{openTo}
 use Rattle.turn.specs.Record.{contraAt, priceAt, mostGiven, slotRecord}
 use Rattle.execution.specs.declared.Batch.{Batch}
@@ -58,20 +59,16 @@ pub record AfterTurn (mode : Mode) (s : Strategy) (m : Market) (b : Book) (a : A
 abbrev pub IsExecuted : Mode → Strategy → Market → Book → Auction → ℕ → Executed → Type 0
 IsExecuted mode s m b a k r = (c : T.Clock) → AfterTurn mode s m b a k r c
 
--- whether an order is ready for its turn, whatever the book, the auction and the clock say
-abbrev pub IsReady : Mode → Strategy → Market → B.Entry → Bool → Type 0
-IsReady mode s m o r = (b : Book) (a : Auction) (c : T.Clock) → r ≡ ready mode (before s m b a c) o
+-- whether an order at a stage, with that side and limit, is ready for its turn, whatever the book, the auction and the clock say
+abbrev pub IsReady : Mode → Strategy → Market → B.Stage → Bool → ℕ → Bool → Type 0
+IsReady mode s m stage buy price r = (o : B.Entry) → o .stage ≡ stage → o .buy ≡ buy → o .price ≡ price → (b : Book) (a : Auction) (c : T.Clock) → r ≡ ready mode (before s m b a c) o
 
--- a reply of the rules leaves this book, this market and these records
-pub record Leaves (s : Strategy) (q : Reply) (r : Executed) (c : T.Clock) : Type 0 where
-  pub book : entriesOf (r .book) ≡ q .state .book
-  pub market : marketOf (r .market) (legCount s) ≡ q .state .market
-  pub records : batchFills (c .next - 1) (r .batch) ≡ recordsOf (q .turns)
+-- the turn of the entry under an id is that of the one at place r; there is none where r is no place
+abbrev pub IsReadyAt : Mode → Strategy → Market → List ℕ → List ℕ → List Bool → List ℕ → ℕ → ℕ → ℕ → Type 0
+IsReadyAt mode s m ids stages buys prices n id r =
+    (f : ℕ → B.Entry) → HasIds f ids → HasStages f stages → HasBuys f buys → HasPrices f prices
+    → (b : Book) (a : Auction) (c : T.Clock) → executeFound mode (before s m b a c) (B.find id (shownBy f n)) ≡ executeIf (ltb r 64) mode (before s m b a c) (f r)
 
--- the turn of the order at place k, if it is ready, whatever the clock says
-abbrev pub IsTurned : Mode → Strategy → Market → Book → Auction → ℕ → Executed → Type 0
-IsTurned mode s m b a k r = (c : T.Clock) → Leaves s (executeFound mode (before s m b a c) (B.found (entryAt b k))) r c
-
--- the turn of the order under an id, if it has one, whatever the clock says
-abbrev pub IsServed : Mode → Strategy → Market → Book → Auction → ℕ → Executed → Type 0
-IsServed mode s m b a id r = (c : T.Clock) → Leaves s (execute mode id (before s m b a c)) r c
+-- the batch of no turn
+abbrev pub noBatch : Batch
+noBatch = record { legs = 0; order = 0; units = 0; count = 0; slots = replicate 65 0; places = replicate 65 0; gave = replicate 65 0; ids = replicate 64 0; prices = replicate 64 0 }

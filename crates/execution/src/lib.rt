@@ -4,9 +4,9 @@ ghost use Prim.Native.Nat.{_<_, _≤_, min};
 ghost use lib.ListN.{length, take};
 ghost use Rattle.rules.specs.Basics.{sum};
 ghost use Rattle.rules.specs.Execution.{stageAfter};
-ghost use Rattle.types.specs.View.{stageOf, entryOf, derivedOf};
+ghost use Rattle.types.specs.View.{stageOf, derivedOf};
 ghost use Rattle.turn.specs.Open.{modeOf};
-ghost use Rattle.execution.specs.Batches.{IsBatch, IsExecuted, IsReady, IsTurned, IsServed};
+ghost use Rattle.execution.specs.Batches.{IsBatch, IsExecuted, IsReady, IsReadyAt, noBatch};
 use turn::Mode;
 use types::Auction;
 use types::Book;
@@ -126,23 +126,47 @@ pub fn execute(mode: u8, s: Strategy, m: Market, b: Book, a: Auction, at: usize)
 }
 
 // "queue orders execute"; "held orders become live .., each executing first"; "live orders at or through the derived contra price execute".
-fn is_ready(mode: u8, s: Strategy, m: Market, o: Entry) -> bool
-    ensures { λ r. ⌜ IsReady (modeOf mode) s m (entryOf o) r ⌝ }
+fn is_ready(mode: u8, s: Strategy, m: Market, stage: u8, buy: bool, price: u32) -> bool
+    ensures { λ r. ⌜ IsReady (modeOf mode) s m (stageOf stage) buy price r ⌝ }
 {
     if mode == Mode::FROM_QUEUE {
-        return scan::is_queued(o.stage);
+        return scan::is_queued(stage);
     }
     if mode == Mode::GOING_LIVE {
-        return scan::is_held(o.stage);
+        return scan::is_held(stage);
     }
-    let d = market::derived(o.buy, s, m);
-    let within = turn::is_within(o.buy, d.price, o.price);
-    scan::is_live(o.stage) & ((0 < d.units) & within)
+    let d = market::derived(buy, s, m);
+    let within = turn::is_within(buy, d.price, price);
+    scan::is_live(stage) & ((0 < d.units) & within)
+}
+
+// Where the order under an id stands, if it is open and ready still; 64 if not.
+pub fn ready_at<'a>(
+    mode: u8,
+    s: Strategy,
+    m: Market,
+    ids: &'a [u32; 64],
+    stages: &'a [u8; 64],
+    buys: &'a [bool; 64],
+    prices: &'a [u32; 64],
+    n: usize,
+    id: u32,
+) -> usize
+    ensures { λ r. ⌜ IsReadyAt (modeOf mode) s m (now (ids .entry)) (now (stages .entry)) (now (buys .entry)) (now (prices .entry)) n id r ⌝ }
+{
+    let k = scan::place_of(ids, n, id);
+    if scan::shown(n) <= k {
+        return 64;
+    }
+    if is_ready(mode, s, m, stages[k], buys[k], prices[k]) {
+        return k;
+    }
+    64
 }
 
 // The batch of no turn.
 pub fn no_batch() -> Batch
-    ensures { λ r. ⌜ r .count ≡ 0 ⌝ }
+    ensures { λ r. ⌜ r ≡ noBatch ⌝ }
 {
     Batch {
         legs: 0,
@@ -155,39 +179,4 @@ pub fn no_batch() -> Batch
         ids: [0; 64],
         prices: [0; 64],
     }
-}
-
-// What a turn that does not take place leaves.
-fn unmoved(m: Market, b: Book) -> Executed
-    ensures { λ r. ⌜ (r .book ≡ b) × (r .market ≡ m) × (r .batch .count ≡ 0) ⌝ }
-{
-    let batch = no_batch();
-    Executed {
-        book: b,
-        market: m,
-        batch,
-    }
-}
-
-// The turn of the order at place k, if it is ready.
-fn execute_if(mode: u8, s: Strategy, m: Market, b: Book, a: Auction, k: usize) -> Executed
-    requires { ⌜ k < 64 ⌝ }
-    ensures { λ r. ⌜ IsTurned (modeOf mode) s m b a k r ⌝ }
-{
-    let o = book::entry_at(b, k);
-    if is_ready(mode, s, m, o) {
-        return execute(mode, s, m, b, a, k);
-    }
-    unmoved(m, b)
-}
-
-// The turn of the order under an id, if it is open and ready still.
-pub fn serve(mode: u8, s: Strategy, m: Market, b: Book, a: Auction, id: u32) -> Executed
-    ensures { λ r. ⌜ IsServed (modeOf mode) s m b a id r ⌝ }
-{
-    let k = scan::place_of(&b.ids, b.count, id);
-    if k < scan::shown(b.count) {
-        return execute_if(mode, s, m, b, a, k);
-    }
-    unmoved(m, b)
 }

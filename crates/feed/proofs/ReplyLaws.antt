@@ -20,12 +20,12 @@ use Rattle.types.specs.declared.Answer.{Answer as Given}
 use Rattle.types.specs.View.{stateOf, messageOf, outcomeOf}
 use Rattle.phases.specs.Rest.{recordAt}
 use Rattle.engine.specs.declared.Work.{Work}
-use Rattle.engine.specs.Work.{emits, Ready, Starts, IsRefused, IsNext as IsNextWork}
+use Rattle.engine.specs.Work.{emits, lastState, Ready, Starts, IsRefused, IsNext as IsNextWork}
 use Rattle.engine.proofs.WorkLaws.{emits-more}
 use Rattle.text.specs.Text.{lineText}
 use Rattle.text.specs.Places.{Put}
 use Rattle.feed.specs.declared.Reply.{Reply}
-use Rattle.feed.specs.Replies.{answerTo, fillsText, answerText, Begins, bytesLeft, linesLeft, lineAt, Goes, IsAtRecords, IsNext}
+use Rattle.feed.specs.Replies.{answerTo, fillsText, answerText, Begins, bytesLeft, linesLeft, lineAt, Goes, IsAtRecords, Follows, IsNext}
 
 pub known-begins : (s : State) (m : Message) (p : List ℕ) (w : Work) → isKind (getD p 0 0) ≡ true → messageOf m ≡ messageIn p → Starts s m leastRoom w → Begins s p w
 unfolding answerTo
@@ -73,6 +73,14 @@ at-records a w q ready i = by (ltb 0 (w .more)) refl
         let k : q .stage ≡ 2 = i .stage ∙ rw e refl in
         let n = ready .none (ltb-false 0 (w .more) e) .0 in
         (rw (k, n) refl, rw (k, n) refl, record { ready = rw (i .work) ready; some = λ h. absurd (omega (arith, h, k)) })
+
+-- what stands behind a record, and behind another line
+pub behind-record : (r q : Reply) (w : Work) → r .stage ≡ 1 → IsNextWork (r .work) w → IsAtRecords (r .answer) w q → Follows r q
+behind-record r q w e n i =
+    record { stage = i .stage ∙ rw (i .work) refl; answer = i .answer; records = ap emits (i .work) ∙ n .records ∙ rw e refl; state = ap lastState (i .work) ∙ n .state }
+
+pub behind-other : (r q : Reply) → (r .stage ≡ 1 → ⊥) → IsAtRecords (r .answer) (r .work) q → Follows r q
+behind-other r q e i = record { stage = i .stage ∙ rw (i .work) refl; answer = i .answer; records = ap emits (i .work) ∙ rw (ne-eqb (r .stage) 1 e) refl; state = ap lastState (i .work) }
 
 pub least-stage : (k : ℕ) → k < 2 → (k ≡ 1 → ⊥) → k ≡ 0
 least-stage k h n = omega (arith, h, n)

@@ -16,7 +16,7 @@ use Rattle.types.specs.declared.State.{State as Held}
 use Rattle.types.specs.declared.Answer.{Answer as Given}
 use Rattle.types.specs.View.{stateOf, outcomeOf}
 use Rattle.tape.specs.View.{strategyFrom}
-use Rattle.phases.specs.Rest.{recordAt}
+use Rattle.phases.specs.Rest.{recordAt, later}
 use Rattle.engine.specs.declared.Work.{Work}
 use Rattle.engine.specs.Work.{emits, lastState, lastOutcome, Ready}
 use Rattle.text.specs.Text.{lineText, linesText}
@@ -82,6 +82,13 @@ pub record Replies (s : Held) (p : List ℕ) (r : Reply) : Type 0 where
   pub records : emits (r .work) ≡ answerTo (stateOf s) p .fills
   pub bytes : bytesLeft r ≡ answerText (answerTo (stateOf s) p)
   pub goes : Goes r
+
+-- a reply behind another, whatever that one is: the same answer, and the records that are left
+pub record Follows (r q : Reply) : Type 0 where
+  pub stage : q .stage ≡ pick (ltb 0 (q .work .more)) 1 2
+  pub answer : q .answer ≡ r .answer
+  pub records : emits (q .work) ≡ pick (eqb (r .stage) 1) (later (r .work .phases)) (emits (r .work))
+  pub state : lastState (q .work) ≡ lastState (r .work)
 
 -- a reply once the line at hand is given
 pub record IsNext (r q : Reply) : Type 0 where

@@ -5,7 +5,7 @@ ghost use lib.ListN.{length};
 ghost use Rattle.types.specs.View.{openedOf};
 ghost use Rattle.engine.specs.Work.{lastState, lastOutcome, Ready};
 ghost use Rattle.text.specs.Places.{Put};
-ghost use Rattle.feed.specs.Replies.{openingIn, Begins, lineAt, Goes, IsAtRecords, Replies, IsNext};
+ghost use Rattle.feed.specs.Replies.{openingIn, Begins, lineAt, Goes, IsAtRecords, Replies, Follows, IsNext};
 use engine::Work;
 use tape::Header;
 use types::Answer;
@@ -110,7 +110,7 @@ fn at_records(answer: Answer, work: Work) -> Reply
 
 // The reply once the line at hand is given.
 pub fn next(r: Reply) -> Reply
-    ensures { λ q. ⌜ (Goes r → r .stage < 2 → IsNext r q) ⌝ }
+    ensures { λ q. ⌜ Follows r q × (Goes r → r .stage < 2 → IsNext r q) ⌝ }
 {
     let a = r.answer;
     let w = r.work;

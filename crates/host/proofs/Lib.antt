@@ -1,2 +1,1 @@
-pub mod SetsLaws
 pub mod OutputLaws

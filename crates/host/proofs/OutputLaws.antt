@@ -1,54 +1,30 @@
--- The bytes of a tape's lines that are still to be written.
-use mathlib.Core.Path.{_≡_, refl, ap, sym, _∙_}
-use mathlib.Core.List.{List, [], _∷_, _++_}
-use Prim.Native.Nat.{ℕ, _+_, _≤_, _<_, min}
+-- The bytes of a whole tape.
+use mathlib.Core.Path.{_≡_, refl, sym}
+use mathlib.Core.List.{List, _++_, append-nil}
+use Prim.Native.Nat.{ℕ, min}
 use native.Mathlib.Omega.{arith}
-use lib.ListN.{length, length-append}
-use lib.Seq.{sets, length-sets}
-use Rattle.rules.specs.Print.{Line, linesOf}
+use borrow.Author.Tests.{ne-eqb}
+use lib.ListN.{length, drop}
+use lib.Seq.{sets}
+use Rattle.rules.specs.Tape.{messagesFrom}
+use Rattle.rules.specs.Print.{titleLine, refusedLine, linesFrom, linesOf}
+use Rattle.types.specs.View.{stateOf}
 use Rattle.text.specs.Text.{lineText, linesText}
-use Rattle.session.specs.declared.Session.{Session}
-use Rattle.session.specs.Lines.{linesLeft, lineAt, linesAfter, Goes}
+use Rattle.session.specs.declared.Start.{Start}
+use Rattle.session.specs.Lines.{startLines, Puts}
 use Rattle.host.specs.Output.{tapeText}
-use Rattle.host.proofs.SetsLaws.{sets-append, sets-least}
 
--- an output, written up to a place, and a session: what is left comes to the tape's bytes in the output as it was lent
-pub record Left (tape lent out : List ℕ) (at : ℕ) (s : Session) : Type 0 where
-  pub goes : Goes tape s
-  pub room : at ≤ length out
-  pub same : length out ≡ length lent
-  pub bytes : sets out at (linesText (linesLeft tape s)) ≡ sets lent 0 (tapeText tape)
-  pub count : min (at + length (linesText (linesLeft tape s))) (length lent) ≡ min (length (tapeText tape)) (length lent)
-
-pub left-first : (tape lent : List ℕ) (s : Session) → linesLeft tape s ≡ linesOf tape → Goes tape s → Left tape lent lent 0 s
+-- a tape that is turned back
+pub back-text : (tape : List ℕ) (b : Start) → linesOf tape ≡ startLines tape b → (b .number ≡ 0 → ⊥) → lineText (refusedLine 0 (b .number)) ≡ tapeText tape
 unfolding tapeText
-left-first tape lent s e g = record { goes = g; room = omega arith; same = refl; bytes = rw e refl; count = rw e (omega arith) }
+back-text tape b e h = rw (e, ne-eqb (b .number) 0 h) (sym (append-nil (lineText (refusedLine 0 (b .number)))))
 
--- a line is written
-pub left-next : (tape lent out text new : List ℕ) (at place : ℕ) (s r : Session) → Left tape lent out at s → s .stage < 5 → text ≡ lineText (lineAt s) → new ≡ sets out at text
-    → place ≡ min (at + length text) (length out) → linesLeft tape r ≡ linesAfter tape s → Goes tape r → Left tape lent new place r
-left-next tape lent out text new at place s r f h t n p e g =
-    let q : linesText (linesLeft tape s) ≡ text ++ linesText (linesLeft tape r) = ap linesText (f .goes .line h) ∙ rw (t, e) refl in
-    let l : length new ≡ length out = ap length n ∙ length-sets out at text in
-    let k : length (linesText (linesLeft tape s)) ≡ length text + length (linesText (linesLeft tape r)) = ap length q ∙ length-append text (linesText (linesLeft tape r)) in
-    record {
-      goes = g;
-      room = omega (arith, p, l);
-      same = l ∙ f .same;
-      bytes =
-          rw (p, sym l) (sets-least (linesText (linesLeft tape r)) new (at + length text) (length new) refl)
-          ∙ ap (λ (x : List ℕ). sets x (at + length text) (linesText (linesLeft tape r))) n
-          ∙ sym (sets-append text (linesText (linesLeft tape r)) out at)
-          ∙ ap (sets out at) (sym q)
-          ∙ f .bytes;
-      count = let c = f .count in let z = f .same in omega (arith, c, z, k, p);
-    }
+-- a tape that is not
+pub read-text : (tape : List ℕ) (b : Start) → linesOf tape ≡ startLines tape b → b .number ≡ 0
+    → lineText titleLine ++ linesText (linesFrom 1 (stateOf (b .state)) (messagesFrom (b .count) (drop (b .at) tape))) ≡ tapeText tape
+unfolding tapeText
+read-text tape b e h = rw (e, h) refl
 
--- none is left
-pub left-none : (tape lent out : List ℕ) (at : ℕ) (s : Session) → Left tape lent out at s → 5 ≤ s .stage → (at ≡ min (length (tapeText tape)) (length lent)) × (out ≡ sets lent 0 (tapeText tape))
-left-none tape lent out at s f h =
-    let e = f .goes .over h in
-    let c : min (at + 0) (length lent) ≡ min (length (tapeText tape)) (length lent) = rw e at (f .count) in
-    let r = f .room in
-    let z = f .same in
-    (omega (arith, c, r, z), rw e at (f .bytes))
+-- the bytes of a tape, in an output from its start
+pub all-put : (tape text lent : List ℕ) (r : ℕ) (out : List ℕ) → text ≡ tapeText tape → Puts text lent 0 r out → (r ≡ min (length (tapeText tape)) (length lent)) × (out ≡ sets lent 0 (tapeText tape))
+all-put tape text lent r out e p = rw (← e) (let h = p .place in omega (arith, h), p .bytes)

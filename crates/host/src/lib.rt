@@ -1,32 +1,33 @@
 // For hosts in Rust and C: a tape's output as bytes.
 ghost use mathlib.Core.Path.{_≡_};
-ghost use Prim.Native.Nat.{_+_, _≤_, min};
-ghost use lib.ListN.{length, take};
+ghost use Prim.Native.Nat.{_≤_, min};
+ghost use lib.ListN.{length, drop};
 ghost use lib.Seq.{sets};
+ghost use Rattle.rules.specs.Tape.{messagesFrom};
+ghost use Rattle.rules.specs.Print.{linesFrom};
+ghost use Rattle.types.specs.View.{stateOf};
+ghost use Rattle.text.specs.Text.{linesText};
+ghost use Rattle.session.specs.Lines.{Puts};
 ghost use Rattle.host.specs.Output.{tapeText};
-use session::Session;
+use session::Place;
+use session::Start;
 
-fn lesser(a: usize, b: usize) -> usize
-    ensures { λ r. ⌜ r ≡ min a b ⌝ }
+// The messages of a tape that is not turned back, and the last line.
+fn put_messages(out: &mut [u8], at: usize, tape: &[u8], b: Start) -> usize
+    requires { ⌜ at ≤ length (now out) ⌝ }
+    ensures { λ r. ⌜ Puts (linesText (linesFrom 1 (stateOf (b .state)) (messagesFrom (b .count) (drop (b .at) (now (tape .entry)))))) (now (out .entry)) at r (now (out .exit)) ⌝ }
 {
-    if a < b {
-        return a;
-    }
-    b
-}
-
-// The first n bytes of a line from a place of the output on, as far as it has room, and the place behind them.
-fn add(out: &mut [u8], at: usize, line: &[u8; 128], n: usize) -> usize
-    requires { ⌜ (length (now line) ≡ 128) × (n ≤ 128) × (at ≤ length (now out)) ⌝ }
-    ensures { λ r. ⌜ (now (out .exit) ≡ sets (now (out .entry)) at (take n (now (line .entry)))) × (r ≡ min (at + n) (length (now (out .entry)))) × (length (now (out .exit)) ≡ length (now (out .entry))) ⌝ }
-{
-    let m = lesser(n, out.len() - at);
-    let mut i = 0;
-    while i < m {
-        out[at + i] = line[i];
-        i += 1;
-    }
-    at + m
+    let state = b.state;
+    let first = Place {
+        position: 0,
+        next: b.at,
+        at,
+        state,
+    };
+    let room = out.len();
+    let last = session::run(out, tape, b.count, first, room);
+    let after = last.state;
+    session::put_last(out, last.at, after)
 }
 
 // The bytes that tapeprint prints for a tape, as many as the output has room for, and how many they are. What stands behind them is as it was.
@@ -34,13 +35,10 @@ fn add(out: &mut [u8], at: usize, line: &[u8; 128], n: usize) -> usize
 pub extern "C" fn run_tape(tape: &[u8], out: &mut [u8]) -> usize
     ensures { λ r. ⌜ (r ≡ min (length (tapeText (now (tape .entry)))) (length (now (out .entry)))) × (now (out .exit) ≡ sets (now (out .entry)) 0 (tapeText (now (tape .entry)))) ⌝ }
 {
-    let mut line = [0u8; 128];
-    let mut at = 0;
-    let mut s = session::begin(tape);
-    while s.stage < Session::OVER {
-        let n = print::put_line(&mut line, session::current(s));
-        at = add(out, at, &line, n);
-        s = session::next(tape, s);
+    let b = session::begin(tape);
+    if b.number != 0 {
+        return session::put_refused(out, 0, 0, b.number);
     }
-    at
+    let at = session::put_title(out, 0);
+    put_messages(out, at, tape, b)
 }

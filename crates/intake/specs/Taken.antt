@@ -1,5 +1,6 @@
 -- What a message taken in stands for in the rules.
 use mathlib.Core.Bool.{Bool, _&&_}
+use mathlib.Core.List.{List}
 use Prim.Native.Nat.{ℕ, min}
 use lib.Dec.{eqb}
 use Rattle.rules.specs.Basics.{pick}
@@ -10,7 +11,9 @@ use Rattle.rules.specs.State as T
 use Rattle.rules.specs.Auction.{eligible, auctionOf, endsByOrder, joins}
 use Rattle.rules.specs.Step as R
 use Rattle.types.specs.declared.Auction.{Auction}
-use Rattle.types.specs.View.{derivedOf, stateOf}
+use Rattle.types.specs.declared.Market.{Market}
+use Rattle.types.specs.declared.Strategy.{Strategy}
+use Rattle.types.specs.View.{legCount, strategyOf, marketOf, derivedOf, stateOf}
 use Rattle.intake.specs.declared.Intake.{Intake}
 
 -- what a message does to the auction
@@ -21,6 +24,10 @@ actOf n =
 -- a message taken in
 abbrev pub intakeOf : Intake → R.Intake
 intakeOf i = record { state = stateOf (i .state); act = actOf (i .act) }
+
+-- a state of which the strategy, the quotes and the entries count, and nothing else is known
+abbrev pub seen : Strategy → Market → List B.Entry → T.State
+seen g m es = record { strategy = strategyOf g; market = marketOf m (legCount g); book = es; auction = T.none; clock = record { next = 0; time = 0 } }
 
 -- what is known of an auction while it is pending
 abbrev pub pendingOf : Auction → T.Pending

@@ -1,17 +1,19 @@
 // Document 01, "Order and auction life": a message taken in, the state with it and what it does to the auction.
 ghost use mathlib.Core.Path.{_≡_};
 ghost use mathlib.Core.Bool.{_&&_};
-ghost use Prim.Native.Nat.{_+_, _-_, _≤_, min};
+ghost use mathlib.Core.List.{[]};
+ghost use Prim.Native.Nat.{ℕ, _+_, _-_, _≤_, min};
 ghost use lib.Dec.{leb};
 ghost use lib.ListN.{length};
 ghost use Rattle.rules.specs.Filter.{beyond};
-ghost use Rattle.rules.specs.Book.{held, queued, answer, withStage};
+ghost use Rattle.rules.specs.Book.{Entry as Listed, held, queued, answer, withStage};
 ghost use Rattle.rules.specs.Auction.{eligible, auctionOf as beginning, endsByOrder, joins, endsByLegs};
 ghost use Rattle.rules.specs.Messages.{local, national, response, modify, cancel, clock};
 ghost use Rattle.rules.specs.State.{withBook, withMarket, withAuction};
 ghost use Rattle.rules.specs.Step.{entryOf as newEntry, modifiedEntry, withNew, orderIntake, takeIn};
-ghost use Rattle.types.specs.View.{legCount, strategyOf, marketOf, entryOf, entriesOf, orderTerms, responseTerms, changeOf, localOf, nationalOf, bodyOf, auctionOf, stateOf};
-ghost use Rattle.intake.specs.Taken.{intakeOf, pendingOf, numbered, outside, during};
+ghost use Rattle.types.specs.View.{legCount, strategyOf, marketOf, entryOf, shownBy, entriesOf, orderTerms, responseTerms, changeOf, localOf, nationalOf, bodyOf, auctionOf, stateOf};
+ghost use Rattle.scan.specs.Columns.{HasStages, HasBuys, HasPrices};
+ghost use Rattle.intake.specs.Taken.{intakeOf, seen, pendingOf, numbered, outside, during};
 use types::Auction;
 use types::Body;
 use types::Book;
@@ -73,30 +75,23 @@ fn meets_class(s: Strategy, units: u32) -> bool
 }
 
 // "its limit is strictly better than every other open same-side order outside the queue, and a best contra price (derived, or live order) exists that the limit reaches or misses by at most the class distance".
-fn is_eligible(s: State, o: Entry) -> bool
-    ensures { λ r. ⌜ r ≡ eligible (stateOf s) (entryOf o) ⌝ }
+fn is_eligible<'a>(
+    stages: &'a [u8; 64],
+    buys: &'a [bool; 64],
+    prices: &'a [u32; 64],
+    n: usize,
+    strategy: Strategy,
+    market: Market,
+    o: Entry,
+) -> bool
+    ensures { λ r. ⌜ ((f : ℕ → Listed) → HasStages f (now (stages .entry)) → HasBuys f (now (buys .entry)) → HasPrices f (now (prices .entry)) → r ≡ eligible (seen strategy market (shownBy f n)) (entryOf o)) ⌝ }
 {
-    let distance = s.strategy.settings.distance;
-    let class = meets_class(s.strategy, o.units);
-    let d = market::derived(o.buy, s.strategy, s.market);
+    let distance = strategy.settings.distance;
+    let class = meets_class(strategy, o.units);
+    let d = market::derived(o.buy, strategy, market);
     let far = is_beyond(!o.buy, distance, o.price, d.price);
-    let front = scan::in_front(
-        &s.book.stages,
-        &s.book.buys,
-        &s.book.prices,
-        s.book.count,
-        o.buy,
-        o.price,
-    );
-    let live = scan::near_live(
-        &s.book.stages,
-        &s.book.buys,
-        &s.book.prices,
-        s.book.count,
-        o.buy,
-        o.price,
-        distance,
-    );
+    let front = scan::in_front(stages, buys, prices, n, o.buy, o.price);
+    let live = scan::near_live(stages, buys, prices, n, o.buy, o.price, distance);
     class & front & (((0 < d.units) & !far) | live)
 }
 
@@ -120,7 +115,15 @@ fn ends_by_order(s: State, o: Entry) -> bool
 fn is_joining(s: State, wish: bool, o: Entry) -> bool
     ensures { λ r. ⌜ r ≡ joins (stateOf s) (pendingOf (s .auction)) wish (entryOf o) ⌝ }
 {
-    let eligible = is_eligible(s, o);
+    let eligible = is_eligible(
+        &s.book.stages,
+        &s.book.buys,
+        &s.book.prices,
+        s.book.count,
+        s.strategy,
+        s.market,
+        o,
+    );
     scan::same_side(s.auction.buy, o.buy) & wish & eligible
 }
 
@@ -128,17 +131,17 @@ fn is_joining(s: State, wish: bool, o: Entry) -> bool
 fn ends_by_legs(s: State) -> bool
     ensures { λ r. ⌜ r ≡ endsByLegs (stateOf s) (auctionOf (s .auction)) ⌝ }
 {
-    let buy = s.auction.buy;
-    let d = market::derived(!buy, s.strategy, s.market);
-    let better = scan::beats(
-        &s.book.stages,
-        &s.book.buys,
-        &s.book.prices,
-        s.book.count,
-        buy,
-        d.price,
-    );
     if s.auction.pending {
+        let buy = s.auction.buy;
+        let d = market::derived(!buy, s.strategy, s.market);
+        let better = scan::beats(
+            &s.book.stages,
+            &s.book.buys,
+            &s.book.prices,
+            s.book.count,
+            buy,
+            d.price,
+        );
         return (0 < d.units) & better;
     }
     false
@@ -220,59 +223,38 @@ fn in_queue(e: Entry) -> Entry
 fn with_book(s: State, book: Book) -> State
     ensures { λ r. ⌜ stateOf r ≡ withBook (stateOf s) (entriesOf book) ⌝ }
 {
-    let strategy = s.strategy;
-    let market = s.market;
-    let auction = s.auction;
-    let clock = s.clock;
-    State {
-        strategy,
-        market,
-        book,
-        auction,
-        clock,
-    }
+    let mut r = s;
+    r.book = book;
+    r
 }
 
 // The state with other quotes.
 fn with_market(s: State, market: Market) -> State
     ensures { λ r. ⌜ stateOf r ≡ withMarket (stateOf s) (marketOf market (legCount (s .strategy))) ⌝ }
 {
-    let strategy = s.strategy;
-    let book = s.book;
-    let auction = s.auction;
-    let clock = s.clock;
-    State {
-        strategy,
-        market,
-        book,
-        auction,
-        clock,
-    }
+    let mut r = s;
+    r.market = market;
+    r
 }
 
 // The state with another auction.
 fn with_auction(s: State, auction: Auction) -> State
     ensures { λ r. ⌜ stateOf r ≡ withAuction (stateOf s) (auctionOf auction) ⌝ }
 {
-    let strategy = s.strategy;
-    let market = s.market;
-    let book = s.book;
-    let clock = s.clock;
-    State {
-        strategy,
-        market,
-        book,
-        auction,
-        clock,
-    }
+    let mut r = s;
+    r.auction = auction;
+    r
 }
 
-// The state with a new entry.
+// The state with a new entry; a full book stays as it is.
 fn with_new(s: State, e: Entry) -> State
     ensures { λ r. ⌜ stateOf r ≡ withNew (stateOf s) (entryOf e) ⌝ }
 {
-    let b = book::append(s.book, e);
-    with_book(s, b)
+    if s.book.count < Book::MOST_ENTRIES {
+        let b = book::append(s.book, e);
+        return with_book(s, b);
+    }
+    s
 }
 
 // ---- orders
@@ -286,12 +268,12 @@ fn deadline_of(time: u64, interval: u16) -> u64
 }
 
 // "begins one, ending at its time plus the interval"; the derived contra price is kept.
-fn begun(s: State, o: Entry) -> Auction
-    requires { ⌜ s .clock .time ≤ 1000000000000000 ⌝ }
-    ensures { λ r. ⌜ auctionOf r ≡ beginning (stateOf s) (entryOf o) (s .clock .time) ⌝ }
+fn begun(strategy: Strategy, market: Market, time: u64, o: Entry) -> Auction
+    requires { ⌜ time ≤ 1000000000000000 ⌝ }
+    ensures { λ r. ⌜ auctionOf r ≡ beginning (seen strategy market []) (entryOf o) time ⌝ }
 {
-    let start = market::derived(o.buy, s.strategy, s.market);
-    let deadline = deadline_of(s.clock.time, s.strategy.settings.interval);
+    let start = market::derived(o.buy, strategy, market);
+    let deadline = deadline_of(time, strategy.settings.interval);
     Auction {
         pending: true,
         buy: o.buy,
@@ -305,7 +287,15 @@ fn asks(s: State, wish: bool, o: Entry) -> bool
     ensures { λ r. ⌜ r ≡ (wish && eligible (stateOf s) (entryOf o)) ⌝ }
 {
     if wish {
-        return is_eligible(s, o);
+        return is_eligible(
+            &s.book.stages,
+            &s.book.buys,
+            &s.book.prices,
+            s.book.count,
+            s.strategy,
+            s.market,
+            o,
+        );
     }
     false
 }
@@ -316,7 +306,7 @@ fn order_outside(s: State, wish: bool, o: Entry) -> Intake
     ensures { λ r. ⌜ intakeOf r ≡ outside (stateOf s) wish (entryOf o) ⌝ }
 {
     if asks(s, wish, o) {
-        let auction = begun(s, o);
+        let auction = begun(s.strategy, s.market, s.clock.time, o);
         let first = with_new(s, in_queue(o));
         let state = with_auction(first, auction);
         return Intake {
@@ -419,8 +409,8 @@ fn modify_in(s: State, t: Modify) -> Intake
     if k < scan::shown(s.book.count) {
         let old = book::entry_at(s.book, k);
         let new = modified_entry(t, number_of(s.clock), old);
-        let others = book::removed(s.book, t.id);
-        let state = with_book(s, book::append(others, new));
+        let others = with_book(s, book::removed(s.book, t.id));
+        let state = with_new(others, new);
         return Intake {
             state,
             act: Act::GOES_ON,
@@ -490,17 +480,9 @@ fn numbered(s: State, time: u64) -> State
         next: least_of(s.clock.next, Clock::MOST_NUMBER) + 1,
         time: least_of(time, Clock::MOST_TIME),
     };
-    let strategy = s.strategy;
-    let market = s.market;
-    let book = s.book;
-    let auction = s.auction;
-    State {
-        strategy,
-        market,
-        book,
-        auction,
-        clock,
-    }
+    let mut r = s;
+    r.clock = clock;
+    r
 }
 
 // A message taken in. A number or a time above the greatest, which no accepted message has, counts as the greatest.

@@ -2,51 +2,41 @@
 use mathlib.Core.Path.{_≡_, refl, ap, ap₂, sym, _∙_}
 use mathlib.Core.Bool.{Bool, true, false, _&&_, _||_, not, true≢false}
 use mathlib.Core.List.{List, [], _∷_, _++_, map}
-use Prim.Native.Nat.{ℕ, zero, suc, _+_, _-_, _≤_, _<_, min}
+use Prim.Native.Nat.{ℕ, zero, suc, _+_, _-_, _*_, _≤_, _<_, min}
 use native.Mathlib.Omega.{arith}
-use borrow.Author.Tests.{ltb-true, ltb-false, leb-true, ne-eqb}
+use borrow.Author.Tests.{ltb-true, ltb-false, lt-ltb, le-ltb, ne-eqb}
 use lib.Dec.{eqb, ltb, leb}
 use lib.ListN.{length, getD, take, drop}
 use Rattle.rules.specs.Basics.{pick}
-use Rattle.rules.specs.Book.{Entry, Found, nobody, found, find, any, only, isHeld, isLive}
+use Rattle.rules.specs.Book.{Entry, found, find, any, only, isHeld, isLive}
 use Rattle.rules.specs.Book.{idsOf as idsOfEntries}
-use Rattle.rules.specs.State.{State, contraPrice}
+use Rattle.rules.specs.State.{State}
 use Rattle.rules.specs.Auction.{queue}
 use Rattle.rules.specs.Turn.{keyOf, Fill}
 use Rattle.rules.specs.Execution.{Mode, fromQueue, goingLive, legsPass, Turn, Reply, still, then, ready, executed, executeIf, executeFound, execute, serve}
 use Rattle.rules.specs.Step.{liveOf, passLegs, steps, closed, ending, recordsOf}
 use Rattle.turn.specs.Open.{modeOf}
 use Rattle.execution.specs.declared.Batch.{Batch}
-use Rattle.execution.specs.Batches.{slotFill, batchFills}
+use Rattle.execution.specs.declared.Executed.{Executed}
+use Rattle.execution.specs.Batches.{slotFill, batchFills, AfterTurn, IsExecuted}
 use Rattle.types.specs.declared.Derived.{Derived}
-use Rattle.types.specs.View.{derivedOf, stateOf}
-use Rattle.phases.specs.declared.Served.{Served}
+use Rattle.types.specs.declared.Strategy.{Strategy}
+use Rattle.types.specs.declared.Market.{Market}
+use Rattle.types.specs.declared.State.{State as Held}
+use Rattle.types.specs.View.{derivedOf, entryAt, clockOf, stateOf}
 use Rattle.phases.specs.declared.Phases.{Phases}
-use Rattle.phases.specs.Rest.{IsServed, left, idsOf, rest, emits, Same, Goes, isAtHand, isIdle, isPassing, reaching, recordAt, later}
+use Rattle.phases.specs.Rest.{IsServed, left, idsOf, rest, emits, Same, far, Goes, isAtHand, isIdle, contraOf, trades, reaching, recordAt, later}
 use Rattle.rules.specs.Prices as P
-
--- a turn changes the book and the market alone
-abbrev moved : State → State → State
-moved s t = record { strategy = s .strategy; market = t .market; book = t .book; auction = s .auction; clock = s .clock }
-
-if-moved : (b : Bool) (mode : Mode) (s : State) (o : Entry) → executeIf b mode s o .state ≡ moved s (executeIf b mode s o .state)
-unfolding executed
-if-moved true mode s o = refl
-if-moved false mode s o = refl
-
-found-moved : (mode : Mode) (s : State) (f : Found) → executeFound mode s f .state ≡ moved s (executeFound mode s f .state)
-found-moved mode s nobody = refl
-found-moved mode s (found o) = if-moved (ready mode s o) mode s o
-
-pub turn-moved : (mode : Mode) (i : ℕ) (s : State) → execute mode i s .state ≡ record { strategy = s .strategy; market = execute mode i s .state .market; book = execute mode i s .state .book; auction = s .auction; clock = s .clock }
-unfolding execute
-turn-moved mode i s = found-moved mode s (find i (s .book))
 
 -- ---- lists
 
 append-assoc : {A : Type 0} (a b c : List A) → (a ++ b) ++ c ≡ a ++ (b ++ c)
 append-assoc [] b c = refl
 append-assoc (x ∷ a) b c = ap (λ (l : List _). x ∷ l) (append-assoc a b c)
+
+append-none : {A : Type 0} (l : List A) → l ++ [] ≡ l
+append-none [] = refl
+append-none (x ∷ l) = ap (λ (m : List _). x ∷ m) (append-none l)
 
 records-join : (ts us : List Turn) → recordsOf (ts ++ us) ≡ recordsOf ts ++ recordsOf us
 unfolding recordsOf
@@ -84,10 +74,32 @@ first-given number used t l h = let z : min used 65 ≡ used = omega arith in rw
 
 -- ---- turns
 
+-- the turn of the order under an id, where it is that of the order at place k of the book, or none where k is no place
+module _ (mode : Mode) (s : Held) (id k : ℕ) (e : executeFound mode (stateOf s) (find id (stateOf s .book)) ≡ executeIf (ltb k 64) mode (stateOf s) (entryAt (s .book) k)) where
+  pub no-turn : 64 ≤ k → execute mode id (stateOf s) ≡ still (stateOf s)
+  unfolding execute
+  no-turn h = e ∙ ap (λ (b : Bool). executeIf b mode (stateOf s) (entryAt (s .book) k)) (le-ltb k 64 h)
+
+  a-turn : k < 64 → execute mode id (stateOf s) ≡ executeIf true mode (stateOf s) (entryAt (s .book) k)
+  unfolding execute
+  a-turn h = e ∙ ap (λ (b : Bool). executeIf b mode (stateOf s) (entryAt (s .book) k)) (lt-ltb k 64 h)
+
+  pub turn-served : (t : Executed) → k < 64 → IsExecuted mode (s .strategy) (s .market) (s .book) (s .auction) (min k 63) t
+      → IsServed mode s id (record { strategy = s .strategy; market = t .market; book = t .book; auction = s .auction; clock = s .clock }) (t .batch)
+  unfolding executed recordsOf
+  turn-served t h i =
+      let z : min k 63 ≡ k = omega arith in
+      let a : AfterTurn mode (s .strategy) (s .market) (s .book) (s .auction) k t (clockOf (s .clock)) = rw z at (i (clockOf (s .clock))) in
+      record {
+        state = ap₂ (λ (m : List P.Quote) (b : List Entry). record { strategy = stateOf s .strategy; market = m; book = b; auction = stateOf s .auction; clock = stateOf s .clock }) (a .market) (a .book) ∙ sym (ap (λ (r : Reply). r .state) (a-turn h));
+        records = a .records ∙ sym (append-none _) ∙ sym (ap (λ (r : Reply). recordsOf (r .turns)) (a-turn h));
+        number = refl;
+      }
+
 then-then : (r : Reply) (f g : State → Reply) → then (then r f) g ≡ then r (λ s. then (f s) g)
 then-then r f g = λ i. record { state = g (f (r .state) .state) .state; turns = append-assoc (r .turns) (f (r .state) .turns) (g (f (r .state) .state) .turns) i }
 
-pub left-turn : (phase i : ℕ) (is sellers : List ℕ) (s : State) → phase < 4 → left phase (i ∷ is) sellers s ≡ then (execute (modeOf phase) i s) (left phase is sellers)
+left-turn : (phase i : ℕ) (is sellers : List ℕ) (s : State) → phase < 4 → left phase (i ∷ is) sellers s ≡ then (execute (modeOf phase) i s) (left phase is sellers)
 unfolding left serve
 left-turn zero i is sellers s h = then-then (execute fromQueue i s) (serve fromQueue is) (λ r. steps (closed r))
 left-turn (suc zero) i is sellers s h = then-then (execute goingLive i s) (serve goingLive is) passLegs
@@ -95,24 +107,26 @@ left-turn (suc (suc zero)) i is sellers s h = refl
 left-turn (suc (suc (suc zero))) i is sellers s h = refl
 left-turn (suc (suc (suc (suc n)))) i is sellers s h = absurd (omega arith)
 
--- the turns after one of their phase
-abbrev pub turnedTo : Phases → Served → Phases
-turnedTo w v =
-    record { state = v .state; batch = v .batch; used = 0; phase = w .phase; ids = w .ids; count = w .count; at = w .at + 1; sellers = w .sellers; others = w .others }
+next-left : (w : Phases) → length (w .ids) ≡ 64 → w .at < min (w .count) 64 → w .phase < 4
+    → rest w ≡ then (execute (modeOf (w .phase)) (getD (w .ids) (w .at) 0) (stateOf (w .state))) (left (w .phase) (drop (w .at + 1) (take (min (w .count) 64) (w .ids))) (take (min (w .others) 64) (w .sellers)))
+next-left w l h p =
+    let n : ℕ = min (w .count) 64 in
+    let sell : List ℕ = take (min (w .others) 64) (w .sellers) in
+    ap (λ (l : List ℕ). left (w .phase) l sell (stateOf (w .state))) (next-id (w .ids) (w .at) n h (omega arith)) ∙ left-turn (w .phase) (getD (w .ids) (w .at) 0) (drop (w .at + 1) (take n (w .ids))) sell (stateOf (w .state)) p
 
-pub turn-same : (w : Phases) (v : Served) → IsServed (modeOf (w .phase)) (w .state) (getD (w .ids) (w .at) 0) v → length (w .ids) ≡ 64 → w .at < min (w .count) 64 → w .phase < 4 → length (w .batch .slots) ≡ 65 → min (w .batch .count) 65 ≤ w .used → Same w (turnedTo w v)
+-- the turn of the next id of a phase, which left the state v and the batch t
+pub turn-same : (w : Phases) (v : Held) (t : Batch) → IsServed (modeOf (w .phase)) (w .state) (getD (w .ids) (w .at) 0) v t → length (w .ids) ≡ 64 → w .at < min (w .count) 64 → w .phase < 4 → length (w .batch .slots) ≡ 65 → min (w .batch .count) 65 ≤ w .used
+    → Same w (record { state = v; batch = t; used = 0; phase = w .phase; ids = w .ids; count = w .count; at = w .at + 1; sellers = w .sellers; others = w .others })
 unfolding emits
-turn-same w v i l h p m u =
+turn-same w v t i l h p m u =
     let n : ℕ = min (w .count) 64 in
     let is : List ℕ = drop (w .at + 1) (take n (w .ids)) in
     let sell : List ℕ = take (min (w .others) 64) (w .sellers) in
     let e : Reply = execute (modeOf (w .phase)) (getD (w .ids) (w .at) 0) (stateOf (w .state)) in
-    let q : rest w ≡ then e (left (w .phase) is sell) =
-    ap (λ (l : List ℕ). left (w .phase) l sell (stateOf (w .state))) (next-id (w .ids) (w .at) n h (omega arith)) ∙ left-turn (w .phase) (getD (w .ids) (w .at) 0) is sell (stateOf (w .state)) p
-    in
+    let q : rest w ≡ then e (left (w .phase) is sell) = next-left w l h p in
     record {
       records =
-          ap₂ (λ (a b : List Fill). a ++ b) (ap (λ (k : ℕ). batchFills (k - 1) (v .batch)) (i .number) ∙ i .records) (ap (λ (x : State). recordsOf (left (w .phase) is sell x .turns)) (i .state))
+          ap₂ (λ (a b : List Fill). a ++ b) (ap (λ (k : ℕ). batchFills (k - 1) t) (i .number) ∙ i .records) (ap (λ (x : State). recordsOf (left (w .phase) is sell x .turns)) (i .state))
           ∙ sym (records-join (e .turns) (left (w .phase) is sell (e .state) .turns))
           ∙ sym (ap (λ (x : Reply). recordsOf (x .turns)) q)
           ∙ sym (ap (λ (a : List Fill). a ++ recordsOf (rest w .turns)) (all-given (w .state .clock .next - 1) (w .used) (w .batch) m u));
@@ -143,6 +157,12 @@ phase-same w r b u n q =
           (ap (λ (x : Reply). recordsOf (x .turns)) q);
       state = ap (λ (x : Reply). x .state) q;
     }
+
+-- the next id of a phase has no turn
+pub skip-same : (w : Phases) → execute (modeOf (w .phase)) (getD (w .ids) (w .at) 0) (stateOf (w .state)) ≡ still (stateOf (w .state)) → length (w .ids) ≡ 64 → w .at < min (w .count) 64 → w .phase < 4
+    → Same w (record { state = w .state; batch = w .batch; used = w .used; phase = w .phase; ids = w .ids; count = w .count; at = w .at + 1; sellers = w .sellers; others = w .others })
+skip-same w e l h p =
+    phase-same w _ refl refl refl (sym (next-left w l h p ∙ ap (λ (r : Reply). then r (left (w .phase) (drop (w .at + 1) (take (min (w .count) 64) (w .ids))) (take (min (w .others) 64) (w .sellers)))) e))
 
 -- the ids of a phase are used up
 module _ (ids sellers : List ℕ) (s : State) where
@@ -189,6 +209,34 @@ idle-is w t = both (ltb (w .phase) 4) (isAtHand w) refl refl t
     both true false f g h = (ltb-true (w .phase) 4 f, ltb-false (w .used) (min (w .batch .count) 65) g)
     both true true f g h = absurd (true≢false (sym h))
     both false y f g h = absurd (true≢false (sym h))
+
+-- ---- turn after turn
+
+-- how long the columns are that the turns are read from
+abbrev pub Sized : Phases → Type 0
+Sized w = (length (w .ids) ≡ 64) × (length (w .sellers) ≡ 64) × (length (w .batch .slots) ≡ 65)
+
+pub below : {a n r : ℕ} → r ≡ n → a < r → a < n
+below e h = omega (arith, e, h)
+
+pub not-below : {a n r : ℕ} → r ≡ n → r ≤ a → n ≤ a
+not-below e h = omega (arith, e, h)
+
+-- the phase of the held orders is none of the others
+pub held-phase : (p : ℕ) → p < 4 → (p ≡ 0 → ⊥) → (p ≡ 2 → ⊥) → (p ≡ 3 → ⊥) → p ≡ 1
+held-phase zero h a b c = absurd (a refl)
+held-phase (suc zero) h a b c = refl
+held-phase (suc (suc zero)) h a b c = absurd (b refl)
+held-phase (suc (suc (suc zero))) h a b c = absurd (c refl)
+held-phase (suc (suc (suc (suc p)))) h a b c = absurd (omega arith)
+
+-- one id less is left
+pub nearer : (w : Phases) → w .at < min (w .count) 64 → (4 - w .phase) * 65 + (min (w .count) 64 - (w .at + 1)) < far w
+nearer w h = omega arith
+
+-- a later phase
+pub sooner : (w : Phases) (p n : ℕ) → w .phase < p → w .phase < 4 → (4 - p) * 65 + (min n 64 - 0) < far w
+sooner w p n h k = omega arith
 
 -- ---- what a message sets off
 
@@ -250,16 +298,16 @@ next-given w k e = rw e (refl, refl)
 
 -- ---- the legs' pass
 
--- a live order at or through its derived contra price is ready in the legs' pass
-pub reaching-ready : (s : State) (ask bid : Derived) → derivedOf ask ≡ contraPrice s true → derivedOf bid ≡ contraPrice s false → (es : List Entry) → any (reaching ask bid) es ≡ any (ready legsPass s) es
-reaching-ready s ask bid a b [] = refl
-reaching-ready s ask bid a b (e ∷ es) = ap₂ (λ (x y : Bool). x || y) (one (e .buy) refl) (reaching-ready s ask bid a b es)
+-- a live order at or through its derived contra price trades in the legs' pass
+pub reaching-trades : (g : Strategy) (m : Market) (ask bid : Derived) → derivedOf ask ≡ contraOf g m true → derivedOf bid ≡ contraOf g m false → (es : List Entry) → any (reaching ask bid) es ≡ any (trades g m) es
+reaching-trades g m ask bid a b [] = refl
+reaching-trades g m ask bid a b (e ∷ es) = ap₂ (λ (x y : Bool). x || y) (one (e .buy) refl) (reaching-trades g m ask bid a b es)
   where
     at : {d c : P.Derived} (x : Bool) → d ≡ c
         → (isLive (e .stage) && (P.exists d && leb (keyOf x (d .price)) (keyOf x (e .price)))) ≡ (isLive (e .stage) && (P.exists c && leb (keyOf x (c .price)) (keyOf x (e .price))))
     at x q = ap (λ (d : P.Derived). isLive (e .stage) && (P.exists d && leb (keyOf x (d .price)) (keyOf x (e .price)))) q
 
-    one : (x : Bool) → e .buy ≡ x → reaching ask bid e ≡ ready legsPass s e
+    one : (x : Bool) → e .buy ≡ x → reaching ask bid e ≡ trades g m e
     one true q = rw q (at true a)
     one false q = rw q (at false b)
 
@@ -275,26 +323,15 @@ found-still mode s i (e ∷ es) h = by (eqb (e .id) i) (ready mode s e) refl h (
     by true false q h f = rw q refl
     by false false q h f = f h
 
-serve-still : (mode : Mode) (is : List ℕ) (s : State) → any (ready mode s) (s .book) ≡ false → serve mode is s ≡ still s
+-- where no order is ready, none has a turn
+pub serve-still : (mode : Mode) (is : List ℕ) (s : State) → any (ready mode s) (s .book) ≡ false → serve mode is s ≡ still s
 unfolding serve execute
 serve-still mode [] s h = refl
 serve-still mode (i ∷ is) s h = ap (λ (r : Reply). then r (serve mode is)) (found-still mode s i (s .book) h) ∙ serve-still mode is s h
 
--- where no order trades with the legs, no turn is left of their pass
-pub pass-still : (w : Phases) → isPassing w ≡ true → any (ready legsPass (stateOf (w .state))) (stateOf (w .state) .book) ≡ false → rest w ≡ still (stateOf (w .state))
+-- where no order trades with the legs, no turn is left after the held orders
+pub pass-still : (w : Phases) → w .phase ≡ 1 → min (w .count) 64 ≤ w .at → any (ready legsPass (stateOf (w .state))) (stateOf (w .state) .book) ≡ false → (ids sellers : List ℕ) → rest w ≡ left 4 ids sellers (stateOf (w .state))
 unfolding left serve
-pass-still w p h = by (w .phase) refl p
-  where
-    s : State
-    s = stateOf (w .state)
-
-    sell : List ℕ
-    sell = take (min (w .others) 64) (w .sellers)
-
-    by : (k : ℕ) → w .phase ≡ k → (ltb 1 k || (eqb k 1 && leb (min (w .count) 64) (w .at))) ≡ true → rest w ≡ still s
-    by zero e h′ = absurd (true≢false (sym h′))
-    by (suc zero) e h′ =
-        used-up w 1 e (leb-true (min (w .count) 64) (w .at) h′) ∙ serve-still legsPass (liveOf (λ e. e .buy) (s .book) ++ liveOf (λ e. not (e .buy)) (s .book)) s h
-    by (suc (suc zero)) e h′ = ap (λ (k : ℕ). left k (idsOf w) sell s) e ∙ serve-still legsPass (idsOf w ++ sell) s h
-    by (suc (suc (suc zero))) e h′ = ap (λ (k : ℕ). left k (idsOf w) sell s) e ∙ serve-still legsPass (idsOf w) s h
-    by (suc (suc (suc (suc k)))) e h′ = left-past (w .phase) (idsOf w) sell s (omega arith)
+pass-still w e u h ids sellers =
+    let s : State = stateOf (w .state) in
+    used-up w 1 e u ∙ serve-still legsPass (liveOf (λ e. e .buy) (s .book) ++ liveOf (λ e. not (e .buy)) (s .book)) s h

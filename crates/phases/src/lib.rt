@@ -2,21 +2,20 @@
 ghost use mathlib.Core.Path.{_≡_};
 ghost use mathlib.Core.Bool.{true, false, _&&_, not};
 ghost use mathlib.Core.List.{[], _∷_};
-ghost use Prim.Native.Nat.{ℕ, _+_, _-_, _<_, _≤_, min};
-ghost use lib.Dec.{leb};
+ghost use Prim.Native.Nat.{ℕ, _-_, _≤_, min};
+ghost use lib.Dec.{ltb, leb};
 ghost use lib.ListN.{length, getD, take};
 ghost use Rattle.rules.specs.Basics.{pick};
 ghost use Rattle.rules.specs.Prices.{exists};
 ghost use Rattle.rules.specs.Book.{Entry, isLive, any};
 ghost use Rattle.rules.specs.Turn.{keyOf};
-ghost use Rattle.rules.specs.Execution.{legsPass, ready, still};
+ghost use Rattle.rules.specs.Execution.{still};
 ghost use Rattle.rules.specs.Step.{steps, closed, ending};
 ghost use Rattle.types.specs.View.{stageOf, shownBy, derivedOf, stateOf, fillOf};
 ghost use Rattle.scan.specs.Columns.{HasPrices, HasBuys, HasStages};
-ghost use Rattle.turn.specs.Open.{modeOf};
 ghost use Rattle.turn.specs.Record.{priceAt, mostGiven};
 ghost use Rattle.execution.specs.Batches.{slotFill};
-ghost use Rattle.phases.specs.Rest.{IsServed, left, rest, emits, Same, far, Goes, isAtHand, isIdle, isPassing, reaching, recordAt, later};
+ghost use Rattle.phases.specs.Rest.{left, rest, emits, Same, Goes, isAtHand, isIdle, isStill, reaching, recordAt, later};
 use execution::Batch;
 use types::Auction;
 use types::Book;
@@ -24,12 +23,7 @@ use types::Derived;
 use types::Fill;
 use types::Market;
 use types::State;
-
-// A state, and the batch of the turn that led to it.
-pub struct Served {
-    pub state: State,
-    pub batch: Batch,
-}
+use types::Strategy;
 
 // The turns of a message: its state, the batch of its last turn and how many of its records are given, and the ids whose turns are to come in this phase.
 pub struct Phases {
@@ -42,59 +36,6 @@ pub struct Phases {
     pub at: usize,
     pub sellers: [u32; 64],
     pub others: usize,
-}
-
-// The state with another book and other quotes.
-fn after(s: State, book: Book, market: Market) -> State
-    ensures { λ r. ⌜ r ≡ record { strategy = s .strategy; market = market; book = book; auction = s .auction; clock = s .clock } ⌝ }
-{
-    let strategy = s.strategy;
-    let auction = s.auction;
-    let clock = s.clock;
-    State {
-        strategy,
-        market,
-        book,
-        auction,
-        clock,
-    }
-}
-
-// The turn of the order under an id, if it has one.
-fn serve_id(mode: u8, s: State, id: u32) -> Served
-    ensures { λ r. ⌜ IsServed (modeOf mode) s id r ⌝ }
-{
-    let t = execution::serve(mode, s.strategy, s.market, s.book, s.auction, id);
-    let book = t.book;
-    let market = t.market;
-    let batch = t.batch;
-    let state = after(s, book, market);
-    Served { state, batch }
-}
-
-// The next turn of a phase.
-fn take_turn(w: Phases) -> Phases
-    requires { ⌜ (w .at < min (w .count) 64) × (w .phase < 4) × (min (w .batch .count) 65 ≤ w .used) ⌝ }
-    ensures { λ r. ⌜ Same w r × (r .phase ≡ w .phase) × (r .at ≡ w .at + 1) × (r .count ≡ w .count) ⌝ }
-{
-    let at = w.at;
-    let s = w.state;
-    let r = serve_id(w.phase, s, w.ids[at]);
-    let state = r.state;
-    let batch = r.batch;
-    let ids = w.ids;
-    let sellers = w.sellers;
-    Phases {
-        state,
-        batch,
-        used: 0,
-        phase: w.phase,
-        ids,
-        count: w.count,
-        at: at + 1,
-        sellers,
-        others: w.others,
-    }
 }
 
 // "remainders are held; all responses expire", and the auction is over.
@@ -119,124 +60,6 @@ fn closed(s: State) -> State
         auction,
         clock,
     }
-}
-
-// After the queue: "then the steps for no pending auction run", held orders first.
-fn leave_queue(w: Phases) -> Phases
-    requires { ⌜ (w .phase ≡ 0) × (min (w .count) 64 ≤ w .at) ⌝ }
-    ensures { λ r. ⌜ Same w r × (r .phase ≡ 1) × (r .batch ≡ w .batch) × (r .used ≡ w .used) ⌝ }
-{
-    let s = w.state;
-    let state = closed(s);
-    let mut ids = [0u32; 64];
-    let count = scan::held_ids(
-        &state.book.ids,
-        &state.book.stages,
-        state.book.count,
-        &mut ids,
-    );
-    let batch = w.batch;
-    let sellers = w.sellers;
-    Phases {
-        state,
-        batch,
-        used: w.used,
-        phase: 1,
-        ids,
-        count,
-        at: 0,
-        sellers,
-        others: w.others,
-    }
-}
-
-// After the held orders: "then live orders .. execute against the legs, buyers before sellers".
-fn leave_held(w: Phases) -> Phases
-    requires { ⌜ (w .phase ≡ 1) × (min (w .count) 64 ≤ w .at) ⌝ }
-    ensures { λ r. ⌜ Same w r × (r .phase ≡ 2) × (r .batch ≡ w .batch) × (r .used ≡ w .used) ⌝ }
-{
-    let state = w.state;
-    let mut ids = [0u32; 64];
-    let mut sellers = [0u32; 64];
-    let count = scan::live_ids(
-        &state.book.ids,
-        &state.book.stages,
-        &state.book.buys,
-        &state.book.prices,
-        state.book.count,
-        true,
-        &mut ids,
-    );
-    let others = scan::live_ids(
-        &state.book.ids,
-        &state.book.stages,
-        &state.book.buys,
-        &state.book.prices,
-        state.book.count,
-        false,
-        &mut sellers,
-    );
-    let batch = w.batch;
-    Phases {
-        state,
-        batch,
-        used: w.used,
-        phase: 2,
-        ids,
-        count,
-        at: 0,
-        sellers,
-        others,
-    }
-}
-
-// After the buyers of the legs' pass: its sellers.
-fn leave_buyers(w: Phases) -> Phases
-    requires { ⌜ (w .phase ≡ 2) × (min (w .count) 64 ≤ w .at) ⌝ }
-    ensures { λ r. ⌜ Same w r × (r .phase ≡ 3) × (r .batch ≡ w .batch) × (r .used ≡ w .used) ⌝ }
-{
-    let state = w.state;
-    let batch = w.batch;
-    let sellers = w.sellers;
-    let ids = w.sellers;
-    Phases {
-        state,
-        batch,
-        used: w.used,
-        phase: 3,
-        ids,
-        count: w.others,
-        at: 0,
-        sellers,
-        others: w.others,
-    }
-}
-
-// After the sellers: no turn is left.
-fn leave_sellers(w: Phases) -> Phases
-    requires { ⌜ (w .phase ≡ 3) × (min (w .count) 64 ≤ w .at) ⌝ }
-    ensures { λ r. ⌜ Same w r × (r .phase ≡ 4) × (r .batch ≡ w .batch) × (r .used ≡ w .used) ⌝ }
-{
-    let mut r = w;
-    r.phase = 4;
-    r
-}
-
-// The next phase.
-fn next_phase(w: Phases) -> Phases
-    requires { ⌜ (w .phase < 4) × (min (w .count) 64 ≤ w .at) ⌝ }
-    ensures { λ r. ⌜ Same w r × (r .phase ≡ w .phase + 1) ⌝ }
-{
-    if w.phase == 0 {
-        return leave_queue(w);
-    }
-    if w.phase == 1 {
-        return leave_held(w);
-    }
-    if w.phase == 2 {
-        return leave_buyers(w);
-    }
-    leave_sellers(w)
 }
 
 // ---- the legs' pass
@@ -282,65 +105,23 @@ fn some_reach<'a>(
 }
 
 // Whether no open order trades with the legs.
-fn is_still(s: State) -> bool
-    ensures { λ r. ⌜ r ≡ not (any (ready legsPass (stateOf s)) (stateOf s .book)) ⌝ }
+pub fn is_still<'a>(
+    stages: &'a [u8; 64],
+    buys: &'a [bool; 64],
+    prices: &'a [u32; 64],
+    n: usize,
+    strategy: Strategy,
+    market: Market,
+) -> bool
+    ensures { λ r. ⌜ ((f : ℕ → Entry) → HasStages f (now (stages .entry)) → HasBuys f (now (buys .entry)) → HasPrices f (now (prices .entry)) → r ≡ isStill strategy market (shownBy f n)) ⌝ }
 {
-    let ask = market::derived(true, s.strategy, s.market);
-    let bid = market::derived(false, s.strategy, s.market);
-    let some = some_reach(
-        &s.book.stages,
-        &s.book.buys,
-        &s.book.prices,
-        s.book.count,
-        ask,
-        bid,
-    );
+    let ask = market::derived(true, strategy, market);
+    let bid = market::derived(false, strategy, market);
+    let some = some_reach(stages, buys, prices, n, ask, bid);
     !some
 }
 
-// Whether only the legs' pass is left.
-fn is_passing(w: Phases) -> bool
-    ensures { λ r. ⌜ r ≡ isPassing w ⌝ }
-{
-    let used_up = scan::shown(w.count) <= w.at;
-    (1 < w.phase) | ((w.phase == 1) & used_up)
-}
-
-// Whether no turn is left, since only the legs' pass is and no order trades in it.
-fn is_over(w: Phases) -> bool
-    ensures { λ r. ⌜ (r ≡ true → rest w ≡ still (stateOf (w .state))) ⌝ }
-{
-    if is_passing(w) {
-        return is_still(w.state);
-    }
-    false
-}
-
-// No turn is left.
-fn over(w: Phases) -> Phases
-    requires { ⌜ rest w ≡ still (stateOf (w .state)) ⌝ }
-    ensures { λ r. ⌜ Same w r × (r .phase ≡ 4) ⌝ }
-{
-    let mut r = w;
-    r.phase = 4;
-    r
-}
-
 // ---- turn after turn
-
-// A turn, the next phase, or the end.
-fn step(w: Phases) -> Phases
-    requires { ⌜ (w .phase < 4) × (min (w .batch .count) 65 ≤ w .used) ⌝ }
-    ensures { λ r. ⌜ Same w r × (far r < far w) ⌝ }
-{
-    if is_over(w) {
-        return over(w);
-    }
-    if w.at < scan::shown(w.count) {
-        return take_turn(w);
-    }
-    next_phase(w)
-}
 
 // The records of a batch.
 fn records(n: usize) -> usize
@@ -361,10 +142,11 @@ pub fn at_hand(w: Phases) -> bool
 }
 
 // Whether none is and turns may be left.
-fn is_idle(w: Phases) -> bool
-    ensures { λ r. ⌜ r ≡ isIdle w ⌝ }
+fn is_idle(phase: u8, count: usize, used: usize) -> bool
+    ensures { λ r. ⌜ r ≡ (ltb phase 4 && not (ltb used (min count 65))) ⌝ }
 {
-    (w.phase < 4) & !at_hand(w)
+    let n = records(count);
+    (phase < 4) & !(used < n)
 }
 
 // Turns until a record is at hand, or none is left.
@@ -372,10 +154,114 @@ fn advance(from: Phases) -> Phases
     ensures { λ r. ⌜ Same from r × (isIdle r ≡ false) ⌝ }
 {
     let mut w = from;
-    let mut idle = is_idle(w);
-    while idle {
-        w = step(w);
-        idle = is_idle(w);
+    while is_idle(w.phase, w.batch.count, w.used) {
+        let strategy = w.state.strategy;
+        let market = w.state.market;
+        if w.at < scan::shown(w.count) {
+            // The next turn of the phase; an order that is not open or not ready has none.
+            let at = w.at;
+            let id = w.ids[at];
+            let k = execution::ready_at(
+                w.phase,
+                strategy,
+                market,
+                &w.state.book.ids,
+                &w.state.book.stages,
+                &w.state.book.buys,
+                &w.state.book.prices,
+                w.state.book.count,
+                id,
+            );
+            w.at = at + 1;
+            if 64 <= k {
+                continue;
+            }
+            let book = w.state.book;
+            let auction = w.state.auction;
+            let clock = w.state.clock;
+            let t = execution::execute(w.phase, strategy, market, book, auction, k);
+            let left = t.market;
+            let kept = t.book;
+            let batch = t.batch;
+            let state = State {
+                strategy,
+                market: left,
+                book: kept,
+                auction,
+                clock,
+            };
+            w.state = state;
+            w.batch = batch;
+            w.used = 0;
+            continue;
+        }
+        // After the queue: "then the steps for no pending auction run", held orders first.
+        if w.phase == 0 {
+            let s = w.state;
+            let state = closed(s);
+            let mut ids = [0u32; 64];
+            w.count = scan::held_ids(
+                &state.book.ids,
+                &state.book.stages,
+                state.book.count,
+                &mut ids,
+            );
+            w.state = state;
+            w.ids = ids;
+            w.at = 0;
+            w.phase = 1;
+            continue;
+        }
+        // After the buyers of the legs' pass: its sellers.
+        if w.phase == 2 {
+            let ids = w.sellers;
+            w.ids = ids;
+            w.count = w.others;
+            w.at = 0;
+            w.phase = 3;
+            continue;
+        }
+        // After the sellers no turn is left.
+        if w.phase == 3 {
+            w.phase = 4;
+            continue;
+        }
+        // After the held orders: "then live orders .. execute against the legs, buyers before sellers", if one does.
+        if is_still(
+            &w.state.book.stages,
+            &w.state.book.buys,
+            &w.state.book.prices,
+            w.state.book.count,
+            strategy,
+            market,
+        ) {
+            w.phase = 4;
+            continue;
+        }
+        let mut ids = [0u32; 64];
+        let mut sellers = [0u32; 64];
+        w.count = scan::live_ids(
+            &w.state.book.ids,
+            &w.state.book.stages,
+            &w.state.book.buys,
+            &w.state.book.prices,
+            w.state.book.count,
+            true,
+            &mut ids,
+        );
+        w.others = scan::live_ids(
+            &w.state.book.ids,
+            &w.state.book.stages,
+            &w.state.book.buys,
+            &w.state.book.prices,
+            w.state.book.count,
+            false,
+            &mut sellers,
+        );
+        w.ids = ids;
+        w.sellers = sellers;
+        w.at = 0;
+        w.phase = 2;
     }
     w
 }

@@ -1,54 +1,59 @@
-// Document 01, "Tape": what tapeprint prints, line by line through a buffer.
-ghost use mathlib.Core.Path.{_≡_};
-ghost use Prim.Native.Nat.{_+_, min};
-ghost use lib.ListN.{length};
-ghost use Rattle.rules.specs.Print.{linesOf};
-ghost use Rattle.session.specs.Lines.{lineOf};
-ghost use Rattle.text.specs.Places.{Printed};
+// Document 01, "Tape": what tapeprint prints, through a page.
+ghost use Prim.Native.Nat.{_<_};
 use libc::STDOUT_FILENO;
-use session::Line;
-use session::Session;
+use session::Place;
+use session::Start;
 
-// The bytes of a line, at the start of a buffer.
-pub fn put_line(out: &mut [u8; 128], l: Line) -> usize
-    requires { ⌜ length (now out) ≡ 128 ⌝ }
-    ensures { λ r. ⌜ Printed (lineOf l) (now (out .entry)) r (now (out .exit)) ⌝ }
-{
-    match l {
-        Line::Title => text::put_title(out),
-        Line::Fill(f) => text::put_fill(out, f),
-        Line::Refused(position, number) => text::put_refused(out, position as u64, number),
-        Line::Last(orders, answers) => text::put_last(out, orders as u64, answers as u64),
+// A page has room for the lines of two messages, each of 2,000 records of at most 128 bytes; with those of one it is written.
+const HALF: usize = 256_000;
+
+// The first n bytes of a page.
+fn write_page(page: &[u8], n: usize) {
+    if n <= page.len() {
+        io::write_all(STDOUT_FILENO, &page[..n]);
     }
 }
 
-// One line.
-fn print_line(l: Line) {
-    let mut out = [0u8; 128];
-    let n = put_line(&mut out, l);
-    io::write_all(STDOUT_FILENO, &out[..n]);
+// The page is written once it is half full, and the next bytes stand at its start.
+fn turn_page(page: &[u8], n: usize) -> usize
+    ensures { λ r. ⌜ r < 256000 ⌝ }
+{
+    if n < HALF {
+        return n;
+    }
+    write_page(page, n);
+    0
 }
 
-// One line more.
-fn one_more(n: u64) -> u64
-    ensures { λ r. ⌜ r ≡ min (n + 1) 1000000000 ⌝ }
-{
-    if n < 1_000_000_000 {
-        return n + 1;
+// The messages of a tape that is not turned back, and the last line.
+fn print_messages(page: &mut [u8], tape: &[u8], b: Start) {
+    let count = b.count;
+    let title = session::put_title(page, 0);
+    let at = turn_page(page, title);
+    let state = b.state;
+    let mut p = Place {
+        position: 0,
+        next: b.at,
+        at,
+        state,
+    };
+    while p.position < count {
+        p = session::run(page, tape, count, p, HALF);
+        p.at = turn_page(page, p.at);
     }
-    1_000_000_000
+    let after = p.state;
+    let n = session::put_last(page, p.at, after);
+    write_page(page, n);
 }
 
-// Every line of a tape, and how many there are, a thousand million at most.
-pub fn print_tape(tape: &[u8]) -> u64
-    ensures { λ r. ⌜ r ≡ min (length (linesOf (now (tape .entry)))) 1000000000 ⌝ }
-{
-    let mut lines: u64 = 0;
-    let mut s = session::begin(tape);
-    while s.stage < Session::OVER {
-        print_line(session::current(s));
-        s = session::next(tape, s);
-        lines = one_more(lines);
+// Every line of a tape.
+pub fn print_tape(tape: &[u8]) {
+    let mut page = [0u8; 512_000];
+    let b = session::begin(tape);
+    if b.number == 0 {
+        print_messages(&mut page, tape, b);
+        return;
     }
-    lines
+    let n = session::put_refused(&mut page, 0, 0, b.number);
+    write_page(&page, n);
 }

@@ -1,1 +1,4 @@
+pub mod SetsLaws
+pub mod PutsLaws
 pub mod LineLaws
+pub mod LeftLaws

@@ -1,90 +1,70 @@
--- A tape's lines that are left, and the line at hand.
+-- The bytes of a tape's lines, and the output that they are written into.
 use mathlib.Core.Path.{_≡_}
 use mathlib.Core.List.{List, [], _∷_, _++_}
-use Prim.Native.Nat.{ℕ, _+_, _-_, _<_, _≤_}
-use lib.Dec.{eqb, ltb}
-use lib.ListN.{drop}
+use Prim.Native.Nat.{ℕ, _+_, _-_, _≤_, _<_, min}
+use lib.Dec.{eqb}
+use lib.ListN.{length, drop}
+use lib.Seq.{sets}
 use Rattle.rules.specs.Basics.{pick}
-use Rattle.rules.specs.Messages.{Message}
-use Rattle.rules.specs.State.{State as Shown}
+use Rattle.rules.specs.Messages as M
+use Rattle.rules.specs.State as T
+use Rattle.rules.specs.Refusals.{leastRoom}
+use Rattle.rules.specs.Execution.{Reply}
+use Rattle.rules.specs.Step.{takeIn, follow, recordsOf, step}
 use Rattle.rules.specs.Tape.{messagesFrom}
-use Rattle.rules.specs.Print.{Line, titleLine, fillLine, refusedLine, lastLine, fillLines, closing, linesFrom}
+use Rattle.rules.specs.Print.{Line, titleLine, refusedLine, fillLines, refusedLines, linesFrom}
 use Rattle.types.specs.declared.State.{State}
-use Rattle.types.specs.View.{stateOf, fillOf}
-use Rattle.phases.specs.Rest.{later, recordAt}
-use Rattle.engine.specs.Work.{emits, lastState, Ready, IsRefused}
-use Rattle.session.specs.declared.Line.{Line as Held}
-use Rattle.session.specs.declared.Line.the-variants.{Title, Fill as FillHeld, Refused, Last}
-use Rattle.session.specs.declared.Session.{Session}
+use Rattle.types.specs.declared.Message.{Message}
+use Rattle.types.specs.View.{stateOf, bodyOf}
+use Rattle.intake.specs.Taken.{numbered}
+use Rattle.text.specs.Text.{linesText}
+use Rattle.session.specs.declared.Start.{Start}
+use Rattle.session.specs.declared.Told.{Told}
+use Rattle.session.specs.declared.Place.{Place}
 
--- a line
-abbrev pub lineOf : Held → Line
-lineOf Title = titleLine
-lineOf (FillHeld f) = fillLine (fillOf f)
-lineOf (Refused k n) = refusedLine k n
-lineOf (Last o a) = lastLine o a
+-- the lines of a tape that begins so
+abbrev pub startLines : List ℕ → Start → List Line
+startLines t b = pick (eqb (b .number) 0) (titleLine ∷ linesFrom 1 (stateOf (b .state)) (messagesFrom (b .count) (drop (b .at) t))) (refusedLine 0 (b .number) ∷ [])
 
--- the messages that are left of a tape
-abbrev pub left : List ℕ → Session → List Message
-left t s = messagesFrom (s .count - s .position) (drop (s .at) t)
+-- the bytes of the message at tape position k: its records, or the refused line
+abbrev pub messageText : ℕ → T.State → M.Message → List ℕ
+messageText k s m = let a = step s m leastRoom in linesText (fillLines (a .fills) ++ refusedLines k (a .outcome))
 
--- the state as the last message left it
-abbrev pub stateIn : Session → Shown
-stateIn s = stateOf (s .work .phases .state)
+-- the bytes of the records of some turns
+abbrev pub turnsText : Reply → List ℕ
+turnsText q = linesText (fillLines (recordsOf (q .turns)))
 
--- the refused line of a message with this number, or 0
-abbrev pub refusalLines : ℕ → ℕ → List Line
-refusalLines k n = pick (eqb n 0) [] (refusedLine k n ∷ [])
+-- what a message sets off once it is taken in
+abbrev pub setOff : State → Message → Reply
+setOff s m = let i = takeIn (numbered (stateOf s) (m .time)) (bodyOf (m .body)) in follow (i .state) (i .act)
 
--- the lines of the messages that are left, and the last line
-abbrev pub between : List ℕ → Session → List Line
-between t s = linesFrom (s .position + 1) (stateIn s) (left t s)
+-- the bytes that are left behind i messages of n, from a place of the tape and a state on
+abbrev pub leftText : List ℕ → ℕ → ℕ → ℕ → T.State → List ℕ
+leftText tape n i at s = linesText (linesFrom (i + 1) s (messagesFrom (n - i) (drop at tape)))
 
--- the lines after the records of the message at hand
-abbrev pub afterRecords : List ℕ → Session → List Line
-afterRecords t s = refusalLines (s .position) (s .work .number) ++ linesFrom (s .position + 1) (lastState (s .work)) (left t s)
+-- the same at a place
+abbrev pub leftAt : List ℕ → ℕ → Place → List ℕ
+leftAt tape n p = leftText tape n (p .position) (p .next) (stateOf (p .state))
 
--- the lines that are left, by the stage of a session: title, records and refused line of a message, between messages, last line, turned back, over
-unfoldable pub linesLeft : List ℕ → Session → List Line
-linesLeft t s =
-    pick (eqb (s .stage) 0) (titleLine ∷ between t s)
-    (pick (eqb (s .stage) 1) (fillLines (emits (s .work)) ++ afterRecords t s)
-    (pick (eqb (s .stage) 2) (between t s)
-    (pick (eqb (s .stage) 3) (closing (stateIn s) ∷ [])
-    (pick (eqb (s .stage) 4) (refusedLine 0 (s .work .number) ∷ []) []))))
+-- an output with these bytes from a place on, as far as it has room, and the place behind them
+pub record Puts (text lent : List ℕ) (at r : ℕ) (out : List ℕ) : Type 0 where
+  pub bytes : out ≡ sets lent at text
+  pub place : r ≡ min (at + length text) (length lent)
 
--- the line at hand
-abbrev pub lineAt : Session → Line
-lineAt s =
-    pick (eqb (s .stage) 0) titleLine
-    (pick (eqb (s .stage) 1) (pick (ltb 0 (s .work .more)) (fillLine (recordAt (s .work .phases))) (refusedLine (s .position) (s .work .number)))
-    (pick (eqb (s .stage) 3) (closing (stateIn s)) (refusedLine 0 (s .work .number))))
+-- the same, and the state after a message
+pub record Tells (text : List ℕ) (after : T.State) (lent : List ℕ) (at : ℕ) (r : Told) (out : List ℕ) : Type 0 where
+  pub puts : Puts text lent at (r .at) out
+  pub state : stateOf (r .state) ≡ after
 
--- the lines after it
-unfoldable pub linesAfter : List ℕ → Session → List Line
-linesAfter t s =
-    pick (eqb (s .stage) 0) (between t s)
-    (pick (eqb (s .stage) 1) (pick (ltb 0 (s .work .more)) (fillLines (later (s .work .phases)) ++ afterRecords t s) (between t s))
-    (pick (eqb (s .stage) 2) (between t s) []))
+-- an output, written up to a place, and bytes that are left: with them it comes to this text in the output as it was lent
+pub record Toward (text lent : List ℕ) (at : ℕ) (rest out : List ℕ) (place : ℕ) : Type 0 where
+  pub same : length out ≡ length lent
+  pub bytes : sets out place rest ≡ sets lent at text
+  pub count : min (place + length rest) (length lent) ≡ min (at + length text) (length lent)
 
--- a message at hand has a line: its work is ready, and without a record it is refused
-pub record Fit (s : Session) : Type 0 where
-  pub ready : s .stage ≡ 1 → Ready (s .work)
-  pub refused : s .stage ≡ 1 → s .work .more ≤ 0 → 0 < s .work .number
-
--- a line is at hand until the session is over
-pub record Goes (t : List ℕ) (s : Session) : Type 0 where
-  pub line : s .stage < 5 → linesLeft t s ≡ lineAt s ∷ linesAfter t s
-  pub over : 5 ≤ s .stage → linesLeft t s ≡ []
-
--- a session at a stage, before the first message
-pub record IsAtStage (k n p : ℕ) (s : State) (number : ℕ) (r : Session) : Type 0 where
-  pub stage : r .stage ≡ k
-  pub position : r .position ≡ 0
-  pub count : r .count ≡ n
-  pub at : r .at ≡ p
-  pub work : IsRefused s number (r .work)
-
--- how far a session is from a line, at most
-abbrev pub far : Session → ℕ
-far s = pick (eqb (s .stage) 2) (s .count - s .position + 1) 0
+-- messages of n are told from one place on up to another: all of them, or as many as it takes to pass a place of the output
+pub record Runs (tape : List ℕ) (n : ℕ) (p : Place) (most : ℕ) (lent : List ℕ) (r : Place) (out : List ℕ) : Type 0 where
+  pub toward : Toward (leftAt tape n p) lent (p .at) (leftAt tape n r) out (r .at)
+  pub room : p .at ≤ length lent → r .at ≤ length out
+  pub end : r .at ≤ most → n ≤ r .position
+  pub on : p .position < n → p .at ≤ most → p .position < r .position

@@ -1,223 +1,246 @@
-// Document 01, "Tape": a whole tape through the engine, line after line.
+// Document 01, "Tape": a tape's messages through the engine, and the bytes that each prints.
 ghost use mathlib.Core.Path.{_≡_};
-ghost use mathlib.Core.Bool.{_||_};
-ghost use mathlib.Core.List.{List, _++_};
-ghost use Prim.Native.Nat.{ℕ, _+_, _<_};
-ghost use lib.Dec.{ltb};
+ghost use Prim.Native.Nat.{_+_, _≤_, min};
+ghost use lib.Dec.{eqb};
+ghost use lib.ListN.{length, take};
+ghost use lib.Seq.{sets};
 ghost use Rattle.rules.specs.Basics.{pick};
-ghost use Rattle.rules.specs.Print.{fillLine, refusedLine, fillLines, closing, linesOf};
-ghost use Rattle.types.specs.View.{stateOf};
-ghost use Rattle.phases.specs.Rest.{recordAt, later};
-ghost use Rattle.session.specs.Lines.{lineOf, afterRecords, linesLeft, lineAt, linesAfter, Fit, Goes, IsAtStage, far};
-use engine::Work;
+ghost use Rattle.rules.specs.Print.{titleLine, fillLine, refusedLine, closing, linesOf};
+ghost use Rattle.types.specs.View.{fillOf, messageOf, stateOf};
+ghost use Rattle.text.specs.Text.{lineText};
+ghost use Rattle.rules.specs.Refusals.{leastRoom};
+ghost use Rattle.rules.specs.Step.{follow, step};
+ghost use Rattle.intake.specs.Taken.{actOf};
+ghost use Rattle.session.specs.Lines.{startLines, messageText, turnsText, setOff, Puts, Tells, Runs};
 use types::Fill;
+use types::Message;
 use types::State;
 
-// A line of the output: the title, a record, a tape position or 0 with a refusal's number, or the counts of open orders and responses.
-pub enum Line {
-    Title,
-    Fill(Fill),
-    Refused(usize, u32),
-    Last(usize, usize),
-}
-
-// A tape's way through the engine: its stage, the tape position of the message at hand, how many messages there are, where the next one starts, and the work of the message at hand.
-pub struct Session {
-    pub stage: u8,
-    pub position: usize,
+// How a tape begins: the number that turns back the tape or its opening, or 0, how many messages there are, where the first one starts, and the state.
+pub struct Start {
+    pub number: u32,
     pub count: usize,
     pub at: usize,
-    pub work: Work,
+    pub state: State,
 }
 
-impl Session {
-    pub const TITLE: u8 = 0;
+// Between two messages of a tape: how many are behind, where the next one starts, the place in the output, and the state.
+pub struct Place {
+    pub position: usize,
+    pub next: usize,
+    pub at: usize,
+    pub state: State,
+}
 
-    pub const MESSAGE: u8 = 1;
-
-    pub const BETWEEN: u8 = 2;
-
-    pub const LAST: u8 = 3;
-
-    pub const TURNED_BACK: u8 = 4;
-
-    pub const OVER: u8 = 5;
+// The state after a message, and the place behind its bytes in the output.
+pub struct Told {
+    pub state: State,
+    pub at: usize,
 }
 
 // ---- a tape begins
 
-// A session at a stage, with nothing of a message at hand.
-fn at_stage(stage: u8, count: usize, at: usize, s: State, number: u32) -> Session
-    ensures { λ r. ⌜ IsAtStage stage count at s number r ⌝ }
+// The first of two numbers that is not 0.
+fn first(a: u32, b: u32) -> u32
+    ensures { λ r. ⌜ r ≡ pick (eqb a 0) b a ⌝ }
 {
-    let work = engine::refused(s, number);
-    Session {
-        stage,
-        position: 0,
-        count,
-        at,
-        work,
+    if a == 0 {
+        return b;
     }
+    a
 }
 
 // "A tape refused with 60 or 61, or a refused opening, prints the one line `refused 0` and its number"; any other begins with the title.
-pub fn begin(tape: &[u8]) -> Session
-    ensures { λ r. ⌜ (linesLeft (now (tape .entry)) r ≡ linesOf (now (tape .entry))) × Goes (now (tape .entry)) r ⌝ }
+pub fn begin(tape: &[u8]) -> Start
+    ensures { λ r. ⌜ linesOf (now (tape .entry)) ≡ startLines (now (tape .entry)) r ⌝ }
 {
     let number = tape::refusal(tape);
     let o = strategy::open(tape::strategy_of(tape));
-    let state = o.state;
-    if number != 0 {
-        return at_stage(Session::TURNED_BACK, 0, 0, state, number);
-    }
-    if o.number != 0 {
-        return at_stage(Session::TURNED_BACK, 0, 0, state, o.number);
-    }
     let h = tape::header_of(tape);
-    at_stage(
-        Session::TITLE,
-        h.messagecount as usize,
-        h.messageoffset as usize,
+    let state = o.state;
+    Start {
+        number: first(number, o.number),
+        count: h.messagecount as usize,
+        at: h.messageoffset as usize,
         state,
-        0,
-    )
+    }
 }
 
-// ---- its lines
+// ---- lines of an output, each as far as the output has room
 
-// The last line.
-fn last_line(s: State) -> Line
-    ensures { λ r. ⌜ lineOf r ≡ closing (stateOf s) ⌝ }
+fn lesser(a: usize, b: usize) -> usize
+    ensures { λ r. ⌜ r ≡ min a b ⌝ }
 {
+    if a < b {
+        return a;
+    }
+    b
+}
+
+// The first n bytes of a line, from a place of the output on.
+fn add(out: &mut [u8], at: usize, line: &[u8; 128], n: usize) -> usize
+    requires { ⌜ (length (now line) ≡ 128) × (n ≤ 128) × (at ≤ length (now out)) ⌝ }
+    ensures { λ r. ⌜ (now (out .exit) ≡ sets (now (out .entry)) at (take n (now (line .entry)))) × (r ≡ min (at + n) (length (now (out .entry)))) × (length (now (out .exit)) ≡ length (now (out .entry))) ⌝ }
+{
+    let m = lesser(n, out.len() - at);
+    let mut i = 0;
+    while i < m {
+        out[at + i] = line[i];
+        i += 1;
+    }
+    at + m
+}
+
+// The same for any place: past the end nothing is put.
+fn put(out: &mut [u8], at: usize, line: &[u8; 128], n: usize) -> usize
+    requires { ⌜ (length (now line) ≡ 128) × (n ≤ 128) ⌝ }
+    ensures { λ r. ⌜ Puts (take n (now (line .entry))) (now (out .entry)) at r (now (out .exit)) ⌝ }
+{
+    let start = lesser(at, out.len());
+    add(out, start, line, n)
+}
+
+// The title.
+pub fn put_title(out: &mut [u8], at: usize) -> usize
+    ensures { λ r. ⌜ Puts (lineText titleLine) (now (out .entry)) at r (now (out .exit)) ⌝ }
+{
+    let mut line = [0u8; 128];
+    let n = text::put_title(&mut line);
+    put(out, at, &line, n)
+}
+
+// A record.
+fn put_fill(out: &mut [u8], at: usize, f: Fill) -> usize
+    ensures { λ r. ⌜ Puts (lineText (fillLine (fillOf f))) (now (out .entry)) at r (now (out .exit)) ⌝ }
+{
+    let mut line = [0u8; 128];
+    let n = text::put_fill(&mut line, f);
+    put(out, at, &line, n)
+}
+
+// "A refused line gives the tape position from 1, then the number".
+pub fn put_refused(out: &mut [u8], at: usize, position: usize, number: u32) -> usize
+    ensures { λ r. ⌜ Puts (lineText (refusedLine position number)) (now (out .entry)) at r (now (out .exit)) ⌝ }
+{
+    let mut line = [0u8; 128];
+    let n = text::put_refused(&mut line, position as u64, number);
+    put(out, at, &line, n)
+}
+
+// "the last line counts open orders and responses".
+pub fn put_last(out: &mut [u8], at: usize, s: State) -> usize
+    ensures { λ r. ⌜ Puts (lineText (closing (stateOf s))) (now (out .entry)) at r (now (out .exit)) ⌝ }
+{
+    let mut line = [0u8; 128];
     let counts = scan::open_counts(&s.book.stages, s.book.count);
-    Line::Last(counts.orders, counts.responses)
+    let n = text::put_last(&mut line, counts.orders as u64, counts.responses as u64);
+    put(out, at, &line, n)
 }
 
-// The record at hand, or the refused line.
-fn message_line(w: Work, position: usize) -> Line
-    ensures { λ r. ⌜ lineOf r ≡ pick (ltb 0 (w .more)) (fillLine (recordAt (w .phases))) (refusedLine position (w .number)) ⌝ }
+// ---- a message
+
+// The turns that a message sets off, record after record.
+fn turns(out: &mut [u8], from: usize, s: State, act: u8) -> Told
+    ensures { λ r. ⌜ Tells (turnsText (follow (stateOf s) (actOf act))) (follow (stateOf s) (actOf act) .state) (now (out .entry)) from r (now (out .exit)) ⌝ }
 {
-    if 0 < w.more {
-        let f = engine::current(w);
-        return Line::Fill(f);
+    let mut at = lesser(from, out.len());
+    let mut w = engine::follow(s, act);
+    let mut more = phases::at_hand(w);
+    while more {
+        at = put_fill(out, at, phases::current(w));
+        w = phases::next(w);
+        more = phases::at_hand(w);
     }
-    Line::Refused(position, w.number)
+    let state = w.state;
+    Told { state, at }
 }
 
-// The line at hand.
-pub fn current(s: Session) -> Line
-    ensures { λ r. ⌜ lineOf r ≡ lineAt s ⌝ }
+// A message that is not refused.
+fn accepted(out: &mut [u8], at: usize, s: State, m: Message) -> Told
+    ensures { λ r. ⌜ Tells (turnsText (setOff s m)) (setOff s m .state) (now (out .entry)) at r (now (out .exit)) ⌝ }
 {
-    if s.stage == Session::TITLE {
-        return Line::Title;
+    let i = intake::take_in(s, m);
+    let state = i.state;
+    let strategy = state.strategy;
+    let market = state.market;
+    let quiet = engine::is_quiet(
+        &state.book.stages,
+        &state.book.buys,
+        &state.book.prices,
+        state.book.count,
+        strategy,
+        market,
+        state.auction.pending,
+        i.act,
+    );
+    if quiet {
+        let place = lesser(at, out.len());
+        return Told { state, at: place };
     }
-    if s.stage == Session::MESSAGE {
-        let w = s.work;
-        return message_line(w, s.position);
-    }
-    if s.stage == Session::LAST {
-        let state = s.work.phases.state;
-        return last_line(state);
-    }
-    Line::Refused(0, s.work.number)
+    turns(out, at, state, i.act)
 }
 
-// ---- from line to line
-
-// The stage of a message whose work has begun or gone on: whether it has a line.
-fn stage_of(w: Work) -> u8
-    ensures { λ r. ⌜ r ≡ pick (ltb 0 (w .more) || ltb 0 (w .number)) 1 2 ⌝ }
+// A message at a tape position: its records, or the refused line.
+pub fn tell(out: &mut [u8], at: usize, position: usize, s: State, m: Message) -> Told
+    ensures { λ r. ⌜ Tells (messageText position (stateOf s) (messageOf m)) (step (stateOf s) (messageOf m) leastRoom .state) (now (out .entry)) at r (now (out .exit)) ⌝ }
 {
-    if (0 < w.more) | (0 < w.number) {
-        return Session::MESSAGE;
+    let strategy = s.strategy;
+    let market = s.market;
+    let auction = s.auction;
+    let clock = s.clock;
+    let number = refusals::refusal(
+        &s.book.ids,
+        &s.book.participants,
+        &s.book.stages,
+        s.book.count,
+        strategy,
+        market,
+        auction,
+        clock,
+        m,
+        Fill::LEAST_ROOM,
+    );
+    if number == 0 {
+        return accepted(out, at, s, m);
     }
-    Session::BETWEEN
-}
-
-// The next message of the tape.
-fn take_one(tape: &[u8], s: Session) -> Session
-    requires { ⌜ (s .stage ≡ 2) × (s .position < s .count) ⌝ }
-    ensures { λ r. ⌜ (linesLeft (now (tape .entry)) r ≡ linesLeft (now (tape .entry)) s) × Fit r × (r .position ≡ s .position + 1) × (r .count ≡ s .count) ⌝ }
-{
-    let t = tape::take_message(tape, s.at);
-    let message = t.message;
-    let state = s.work.phases.state;
-    let work = engine::start(state, message, Fill::LEAST_ROOM);
-    let stage = stage_of(work);
-    Session {
-        stage,
-        position: s.position + 1,
-        count: s.count,
-        at: t.next,
-        work,
-    }
-}
-
-// The session at another stage.
-fn at(s: Session, stage: u8) -> Session
-    ensures { λ r. ⌜ r ≡ record { stage = stage; position = s .position; count = s .count; at = s .at; work = s .work } ⌝ }
-{
-    let mut r = s;
-    r.stage = stage;
-    r
-}
-
-// Between two messages: the next message, or the last line.
-fn step(tape: &[u8], s: Session) -> Session
-    requires { ⌜ s .stage ≡ 2 ⌝ }
-    ensures { λ r. ⌜ (linesLeft (now (tape .entry)) r ≡ linesLeft (now (tape .entry)) s) × Fit r × (far r < far s) ⌝ }
-{
-    if s.position < s.count {
-        return take_one(tape, s);
-    }
-    at(s, Session::LAST)
-}
-
-// Messages until a line is at hand.
-fn settle(tape: &[u8], from: Session) -> Session
-    requires { ⌜ Fit from ⌝ }
-    ensures { λ r. ⌜ (linesLeft (now (tape .entry)) r ≡ linesLeft (now (tape .entry)) from) × Goes (now (tape .entry)) r ⌝ }
-{
-    let mut s = from;
-    while s.stage == Session::BETWEEN {
-        s = step(tape, s);
-    }
-    s
-}
-
-// The message at hand once its record is given.
-fn go_on(s: Session) -> Session
-    ensures { λ r. ⌜ Fit r × ((t : List ℕ) → linesLeft t r ≡ fillLines (later (s .work .phases)) ++ afterRecords t s) ⌝ }
-{
-    let old = s.work;
-    let work = engine::next(old);
-    let stage = stage_of(work);
-    Session {
-        stage,
-        position: s.position,
-        count: s.count,
-        at: s.at,
-        work,
+    let place = put_refused(out, at, position, number);
+    Told {
+        state: s,
+        at: place,
     }
 }
 
-// The session once the line at hand is given, before the next one is looked for.
-fn given(s: Session) -> Session
-    ensures { λ r. ⌜ Fit r × ((t : List ℕ) → linesLeft t r ≡ linesAfter t s) ⌝ }
-{
-    if (s.stage == Session::MESSAGE) & (0 < s.work.more) {
-        return go_on(s);
-    }
-    if s.stage <= Session::BETWEEN {
-        return at(s, Session::BETWEEN);
-    }
-    at(s, Session::OVER)
-}
+// ---- message after message
 
-// The session once the line at hand is given.
-pub fn next(tape: &[u8], s: Session) -> Session
-    ensures { λ r. ⌜ (linesLeft (now (tape .entry)) r ≡ linesAfter (now (tape .entry)) s) × Goes (now (tape .entry)) r ⌝ }
+// The messages of a tape from a place on, until all are told or the output is written past a place.
+pub fn run(out: &mut [u8], tape: &[u8], count: usize, p: Place, most: usize) -> Place
+    ensures { λ r. ⌜ Runs (now (tape .entry)) count p most (now (out .entry)) r (now (out .exit)) ⌝ }
 {
-    let r = given(s);
-    settle(tape, r)
+    let mut at = p.at;
+    let mut next = p.next;
+    let mut state = p.state;
+    let mut position = p.position;
+    while position < count {
+        if most < at {
+            return Place {
+                position,
+                next,
+                at,
+                state,
+            };
+        }
+        let t = tape::take_message(tape, next);
+        let message = t.message;
+        next = t.next;
+        position += 1;
+        let r = tell(out, at, position, state, message);
+        state = r.state;
+        at = r.at;
+    }
+    Place {
+        position,
+        next,
+        at,
+        state,
+    }
 }

@@ -16,8 +16,8 @@ returns : tie.Need-returns
 unfolding endsByLegs
 returns c =
     let b = c .before .before .before .before .before .before .before .before .before .before .args .t1 .book in
-    let d = c .before .before .before .before .before .before .before .derived .ensures .0 in
-    rw (c .before .before .beats .ensures (entryAt b) (λ i. refl) (λ i. refl) (λ i. refl), c .before .if1 .taken, ap (λ (x : Derived). x .units) d, ap (λ (x : Derived). x .price) d)
+    let d = c .before .before .before .before .before .before .derived .ensures .0 in
+    rw (c .before .beats .ensures (entryAt b) (λ i. refl) (λ i. refl) (λ i. refl), c .before .before .before .before .before .before .before .before .before .if1 .taken, ap (λ (x : Derived). x .units) d, ap (λ (x : Derived). x .price) d)
 
 returns-2 : tie.Need-returns-2
 unfolding endsByLegs

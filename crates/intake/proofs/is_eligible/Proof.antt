@@ -1,6 +1,5 @@
-use mathlib.Core.Path.{refl, ap}
+use mathlib.Core.Path.{ap}
 use Rattle.rules.specs.Prices.{Derived}
-use Rattle.types.specs.View.{entryAt}
 use Rattle.rules.specs.Auction.{eligible}
 use borrow.Author.Needs.{needs}
 use Rattle.intake.proofs.is_eligible.Statement.{statement}
@@ -23,10 +22,9 @@ near-live-requires c κs = search needs
 
 returns : tie.Need-returns
 unfolding eligible
-returns c =
-    let b = c .before .before .before .before .before .before .before .before .before .before .before .before .before .before .before .before .before .before .args .t1 .book in
-    let d = c .before .before .before .before .before .before .before .before .before .before .before .before .before .derived .ensures .0 in
-    rw (c .before .near-live .ensures (entryAt b) (λ i. refl) (λ i. refl) (λ i. refl), c .before .before .before .before .before .before .in-front .ensures (entryAt b) (λ i. refl) (λ i. refl) (λ i. refl), c .before .before .before .before .before .before .before .before .before .before .before .is-beyond .ensures, ap (λ (x : Derived). x .units) d, ap (λ (x : Derived). x .price) d, c .before .before .before .before .before .before .before .before .before .before .before .before .before .before .before .before .meets-class .ensures)
+returns c f hs hb hp =
+    let d = c .before .before .before .before .before .derived .ensures .0 in
+    rw (c .before .near-live .ensures f hs hb hp, c .before .before .in-front .ensures f hs hb hp, c .before .before .before .is-beyond .ensures, ap (λ (x : Derived). x .units) d, ap (λ (x : Derived). x .price) d, c .before .before .before .before .before .before .meets-class .ensures)
 
 pub is-eligible-spec : {M : Type 1} → statement M
 is-eligible-spec =

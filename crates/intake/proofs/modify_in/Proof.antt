@@ -28,11 +28,11 @@ modified-entry-requires c κs = search needs
 removed-requires : tie.Need-removed-requires
 removed-requires c κs = search needs
 
-append-requires : tie.Need-append-requires
-append-requires c κs = search needs
-
 with-book-requires : tie.Need-with-book-requires
 with-book-requires c κs = search needs
+
+with-new-requires : tie.Need-with-new-requires
+with-new-requires c κs = search needs
 
 returns : tie.Need-returns
 unfolding R.takeIn
@@ -40,9 +40,10 @@ returns c =
     let a = c .before .before .before .before .before .before .before .before .before .before .before .before .before .before .args in
     let b = a .t1 .book in
     let n = a .t1 .clock .next - 1 in
-    ap (λ (x : T.State). R.intake x R.goesOn) (c .with-book .ensures ∙ ap (T.withBook (stateOf (a .t1))) (c .before .append .ensures
-    ∙ ap₂ B.added (c .before .before .removed .ensures) (c .before .before .before .before .modified-entry .ensures ∙ ap₂ (R.modifiedEntry (changeOf (a .t))) (c .before .before .before .before .before .number-of .ensures) (c .before .before .before .before .before .before .before .entry-at .ensures))
-    ∙ sym (modify-found (changeOf (a .t)) n (entriesOf b) _ _ _ _ _ (c .before .before .before .before .before .before .before .before .before .before .before .place-of .ensures .1 (entryAt b) (λ i. refl)) (c .before .before .before .before .before .before .before .before .before .before .shown .ensures) (c .before .before .before .before .before .before .before .before .before .if1 .taken))))
+    let st = stateOf (a .t1) in
+    ap (λ (x : T.State). R.intake x R.goesOn) (c .with-new .ensures
+    ∙ ap₂ R.withNew (c .before .with-book .ensures ∙ ap (T.withBook st) (c .before .before .removed .ensures)) (c .before .before .before .before .modified-entry .ensures ∙ ap₂ (R.modifiedEntry (changeOf (a .t))) (c .before .before .before .before .before .number-of .ensures) (c .before .before .before .before .before .before .before .entry-at .ensures))
+    ∙ ap (T.withBook st) (sym (modify-found (changeOf (a .t)) n (entriesOf b) _ _ _ _ _ (c .before .before .before .before .before .before .before .before .before .before .before .place-of .ensures .1 (entryAt b) (λ i. refl)) (c .before .before .before .before .before .before .before .before .before .before .shown .ensures) (c .before .before .before .before .before .before .before .before .before .if1 .taken))))
 
 returns-2 : tie.Need-returns-2
 unfolding R.takeIn
@@ -63,7 +64,7 @@ modify-in-spec =
     number-of-requires
     modified-entry-requires
     removed-requires
-    append-requires
     with-book-requires
+    with-new-requires
     returns
     returns-2)

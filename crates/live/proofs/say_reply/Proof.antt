@@ -22,10 +22,10 @@ next-requires : tie.Need-next-requires Inv-loop μ-loop
 next-requires c κs = search needs
 
 loop-less : tie.Need-loop-less Inv-loop μ-loop
-loop-less c = c .next .ensures (c .before .before .before .before .before .loop .inv) (c .before .before .before .if1 .taken) .lines
+loop-less c = c .next .ensures .1 (c .before .before .before .before .before .loop .inv) (c .before .before .before .if1 .taken) .lines
 
 loop-again : tie.Need-loop-again Inv-loop μ-loop
-loop-again c = c .next .ensures (c .before .before .before .before .before .loop .inv) (c .before .before .before .if1 .taken) .goes
+loop-again c = c .next .ensures .1 (c .before .before .before .before .before .loop .inv) (c .before .before .before .if1 .taken) .goes
 
 returns-2 : tie.Need-returns-2 Inv-loop μ-loop
 returns-2 c = tt

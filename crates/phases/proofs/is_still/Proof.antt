@@ -1,7 +1,7 @@
-use mathlib.Core.Path.{refl, ap, _∙_}
+use mathlib.Core.Path.{ap, _∙_}
 use mathlib.Core.Bool.{not}
-use Rattle.types.specs.View.{entryAt, entriesOf, stateOf}
-use Rattle.phases.proofs.RestLaws.{reaching-ready}
+use Rattle.types.specs.View.{shownBy}
+use Rattle.phases.proofs.RestLaws.{reaching-trades}
 use borrow.Author.Needs.{needs}
 use Rattle.phases.proofs.is_still.Statement.{statement}
 use Rattle.phases.proofs.is_still.Tie as tie
@@ -16,10 +16,9 @@ some-reach-requires : tie.Need-some-reach-requires
 some-reach-requires c κs = search needs
 
 returns : tie.Need-returns
-returns c =
-    let s = c .before .before .before .before .before .before .before .before .before .before .before .args .t1 in
-    let r = c .some-reach .ensures (entryAt (s .book)) (λ i. refl) (λ i. refl) (λ i. refl) in
-    ap not (r ∙ reaching-ready (stateOf s) _ _ (c .before .before .before .before .before .before .before .before .derived .ensures .0) (c .before .before .before .before .before .derived2 .ensures .0) (entriesOf (s .book)))
+returns c f s b p =
+    let a = c .before .before .before .args in
+    ap not (c .some-reach .ensures f s b p ∙ reaching-trades (a .strategy) (a .market) _ _ (c .before .before .derived .ensures .0) (c .before .derived2 .ensures .0) (shownBy f (a .n)))
 
 pub is-still-spec : {M : Type 1} → statement M
 is-still-spec =

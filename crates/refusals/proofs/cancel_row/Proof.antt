@@ -1,5 +1,3 @@
-use Rattle.types.specs.View.{entryAt}
-use mathlib.Core.Path.{refl}
 use borrow.Author.Needs.{needs}
 use Rattle.refusals.proofs.cancel_row.Statement.{statement}
 use Rattle.refusals.proofs.cancel_row.Tie as tie
@@ -14,10 +12,9 @@ first-requires-2 : tie.Need-first-requires-2
 first-requires-2 c κs = search needs
 
 returns : tie.Need-returns
-returns c =
-    let b = c .before .before .before .before .before .before .before .before .args .t1 .book in
-    let q = c .before .before .before .standing-of .ensures (entryAt b) (λ i. refl) (λ i. refl) (λ i. refl) in
-    rw (c .first2 .ensures, c .before .before .first .ensures, q .2, q .0)
+returns c f i p s t b =
+    let q = c .before .before .before .standing-of .ensures f i p s in
+    rw (c .first2 .ensures, c .before .before .first .ensures, b, q .2, q .0)
 
 pub cancel-row-spec : {M : Type 1} → statement M
 cancel-row-spec = tie.close (tie.spec standing-of-requires first-requires first-requires-2 returns)

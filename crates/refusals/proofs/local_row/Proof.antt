@@ -32,7 +32,7 @@ first-requires-3 : tie.Need-first-requires-3
 first-requires-3 c κs = search needs
 
 returns : tie.Need-returns
-returns c =
+returns c s e =
     let a = c .before .before .before .before .before .before .before .before .before .before .args in
     rw (
       c .first3 .ensures,
@@ -42,7 +42,8 @@ returns c =
       c .before .before .before .before .before .good-local2 .ensures ∙ ap (λ z. goodLocal z (a .q .asksize)) (toZ-ofZ {w = w32} {z = a .q .ask} (search needs)),
       c .before .before .before .before .before .before .before .good-local .ensures ∙ ap (λ z. goodLocal z (a .q .bidsize)) (toZ-ofZ {w = w32} {z = a .q .bid} (search needs)),
       c .before .before .before .before .before .before .before .before .before .leg-count .ensures,
-      legs-length (a .s .strategy),
+      e,
+      legs-length (a .strategy),
     )
 
 pub local-row-spec : {M : Type 1} → statement M

@@ -1,9 +1,7 @@
-use mathlib.Core.Path.{refl, ap, _∙_}
+use mathlib.Core.Path.{ap, _∙_}
 use Rattle.rules.specs.Refusals.{goodFields}
 use mir.Syntax.{w32}
 use mir.Facts.{toZ-ofZ}
-use Rattle.refusals.proofs.RowLaws.{pending-is}
-use Rattle.types.specs.View.{entryAt}
 use borrow.Author.Needs.{needs}
 use Rattle.refusals.proofs.modify_row.Statement.{statement}
 use Rattle.refusals.proofs.modify_row.Tie as tie
@@ -24,15 +22,16 @@ first-requires-3 : tie.Need-first-requires-3
 first-requires-3 c κs = search needs
 
 returns : tie.Need-returns
-returns c =
-    let a = c .before .before .before .before .before .before .before .before .before .before .before .args in
+returns c f i q s t b p =
+    let a = c .before .before .before .before .before .before .before .args in
     rw (
       c .first3 .ensures,
       c .before .first2 .ensures,
       c .before .before .first .ensures,
-      c .before .before .before .before .standing-of .ensures (entryAt (a .t1 .book)) (λ i. refl) (λ i. refl) (λ i. refl) .1,
-      c .before .before .before .before .before .before .before .before .before .good-fields .ensures ∙ ap (goodFields (a .t .side) (a .t .id) (a .t .participant) (a .t .units)) (toZ-ofZ {w = w32} {z = a .t .price} (search (needs, c .before .before .before .before .before .before .before .before .before .before .before .good .1))),
-      pending-is (a .t1 .auction .pending) _,
+      c .before .before .before .before .standing-of .ensures f i q s .1,
+      c .before .before .before .before .before .good-fields .ensures ∙ ap (goodFields (a .t .side) (a .t .id) (a .t .participant) (a .t .units)) (toZ-ofZ {w = w32} {z = a .t .price} (search needs)),
+      b,
+      p,
     )
 
 pub modify-row-spec : {M : Type 1} → statement M

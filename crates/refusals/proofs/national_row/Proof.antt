@@ -26,9 +26,9 @@ first-requires-2 : tie.Need-first-requires-2
 first-requires-2 c κs = search needs
 
 returns : tie.Need-returns
-returns c =
+returns c s e =
     let a = c .before .before .before .before .before .before .before .before .args in
-    rw (c .first2 .ensures, c .before .before .first .ensures, c .before .before .before .good-national2 .ensures ∙ ap goodNational (toZ-ofZ {w = w32} {z = a .q .ask} (search needs)), c .before .before .before .before .before .good-national .ensures ∙ ap goodNational (toZ-ofZ {w = w32} {z = a .q .bid} (search needs)), c .before .before .before .before .before .before .before .leg-count .ensures, legs-length (a .s .strategy))
+    rw (c .first2 .ensures, c .before .before .first .ensures, c .before .before .before .good-national2 .ensures ∙ ap goodNational (toZ-ofZ {w = w32} {z = a .q .ask} (search needs)), c .before .before .before .before .before .good-national .ensures ∙ ap goodNational (toZ-ofZ {w = w32} {z = a .q .bid} (search needs)), c .before .before .before .before .before .before .before .leg-count .ensures, e, legs-length (a .strategy))
 
 pub national-row-spec : {M : Type 1} → statement M
 national-row-spec =
