@@ -66,7 +66,7 @@ numbered-taken s time t n =
 book-fits : (s : Held) → length (stateOf s .book) ≤ 64
 book-fits s = let e = from-length (entryAt (s .book)) 0 (min (s .book .count) 64) in omega arith
 
-few-records : (s : Held) (m : Message) (room : ℕ) → length (step (stateOf s) m room .fills) ≤ leastRoom
+pub few-records : (s : Held) (m : Message) (room : ℕ) → length (step (stateOf s) m room .fills) ≤ leastRoom
 unfolding RecordsFit
 few-records s m room = records-fit (stateOf s) m room (book-fits s) .0
 

@@ -7,8 +7,7 @@ ghost use Rattle.rules.specs.Tape.{messagesFrom};
 ghost use Rattle.rules.specs.Print.{linesFrom};
 ghost use Rattle.types.specs.View.{stateOf};
 ghost use Rattle.text.specs.Text.{linesText};
-ghost use Rattle.session.specs.Lines.{Puts};
-ghost use Rattle.host.specs.Output.{tapeText};
+ghost use Rattle.session.specs.Lines.{tapeText, Puts};
 use session::Place;
 use session::Start;
 

@@ -1,11 +1,28 @@
 // Document 01, "Tape": what tapeprint prints, through a page.
-ghost use Prim.Native.Nat.{_<_};
+ghost use mathlib.Core.Path.{_≡_};
+ghost use Prim.Native.Nat.{_+_, _≤_, _<_, min};
+ghost use lib.ListN.{length, drop};
+ghost use Rattle.rules.specs.Tape.{messagesFrom};
+ghost use Rattle.rules.specs.Print.{titleLine, linesFrom};
+ghost use Rattle.types.specs.View.{stateOf};
+ghost use Rattle.text.specs.Text.{lineText, linesText};
+ghost use Rattle.session.specs.Lines.{tapeText};
 use libc::STDOUT_FILENO;
 use session::Place;
 use session::Start;
 
-// A page has room for the lines of two messages, each of 2,000 records of at most 128 bytes; with those of one it is written.
+// A page has room for half a page, and then for a message: 2,000 records of at most 128 bytes.
 const HALF: usize = 256_000;
+
+// What is counted at most.
+const MOST: u64 = 1_000_000_000_000_000_000;
+
+// An empty page.
+fn blank_page() -> [u8; 512_000]
+    ensures { λ r. ⌜ 512000 ≡ length r ⌝ }
+{
+    [0; 512_000]
+}
 
 // The first n bytes of a page.
 fn write_page(page: &[u8], n: usize) {
@@ -16,7 +33,7 @@ fn write_page(page: &[u8], n: usize) {
 
 // The page is written once it is half full, and the next bytes stand at its start.
 fn turn_page(page: &[u8], n: usize) -> usize
-    ensures { λ r. ⌜ r < 256000 ⌝ }
+    ensures { λ r. ⌜ (r ≤ n) × (r < 256000) ⌝ }
 {
     if n < HALF {
         return n;
@@ -25,11 +42,26 @@ fn turn_page(page: &[u8], n: usize) -> usize
     0
 }
 
-// The messages of a tape that is not turned back, and the last line.
-fn print_messages(page: &mut [u8], tape: &[u8], b: Start) {
+// So many bytes more.
+fn count_up(total: u64, n: usize) -> u64
+    ensures { λ r. ⌜ r ≡ min (total + n) 1000000000000000000 ⌝ }
+{
+    let more = n as u64;
+    if total < MOST {
+        if more < MOST - total {
+            return total + more;
+        }
+    }
+    MOST
+}
+
+// The title, the messages of a tape that is not turned back, and the last line; how many bytes they are.
+fn print_messages(page: &mut [u8], tape: &[u8], b: Start) -> u64
+    requires { ⌜ length (now page) ≡ 512000 ⌝ }
+    ensures { λ r. ⌜ r ≡ min (length (lineText titleLine) + length (linesText (linesFrom 1 (stateOf (b .state)) (messagesFrom (b .count) (drop (b .at) (now (tape .entry))))))) 1000000000000000000 ⌝ }
+{
     let count = b.count;
-    let title = session::put_title(page, 0);
-    let at = turn_page(page, title);
+    let at = session::put_title(page, 0);
     let state = b.state;
     let mut p = Place {
         position: 0,
@@ -37,23 +69,29 @@ fn print_messages(page: &mut [u8], tape: &[u8], b: Start) {
         at,
         state,
     };
+    let mut total: u64 = 0;
     while p.position < count {
         p = session::run(page, tape, count, p, HALF);
-        p.at = turn_page(page, p.at);
+        let left = turn_page(page, p.at);
+        total = count_up(total, p.at - left);
+        p.at = left;
     }
     let after = p.state;
     let n = session::put_last(page, p.at, after);
     write_page(page, n);
+    count_up(total, n)
 }
 
-// Every line of a tape.
-pub fn print_tape(tape: &[u8]) {
-    let mut page = [0u8; 512_000];
+// Every line of a tape, and how many bytes they are.
+pub fn print_tape(tape: &[u8]) -> u64
+    ensures { λ r. ⌜ r ≡ min (length (tapeText (now (tape .entry)))) 1000000000000000000 ⌝ }
+{
+    let mut page = blank_page();
     let b = session::begin(tape);
     if b.number == 0 {
-        print_messages(&mut page, tape, b);
-        return;
+        return print_messages(&mut page, tape, b);
     }
     let n = session::put_refused(&mut page, 0, 0, b.number);
     write_page(&page, n);
+    count_up(0, n)
 }

@@ -4,7 +4,7 @@ use mathlib.Core.List.{List, [], _++_, append-nil, append-assoc}
 use Prim.Native.Nat.{ℕ, suc, _+_, _-_, _<_, _≤_}
 use native.Mathlib.Decide.{decLt}
 use native.Mathlib.Omega.{arith}
-use lib.ListN.{drop}
+use lib.ListN.{length, length-append, drop}
 use Rattle.rules.specs.State.{State as Shown}
 use Rattle.rules.specs.Messages as M
 use Rattle.rules.specs.Step.{Answer, step}
@@ -18,7 +18,7 @@ use Rattle.text.specs.Text.{lineText, linesText}
 use Rattle.tape.specs.View.{placeAfter}
 use Rattle.tape.proofs.PartLaws.{messages-next}
 use Rattle.session.specs.declared.Told.{Told}
-use Rattle.session.specs.Lines.{leftText, messageText, Tells, Toward}
+use Rattle.session.specs.Lines.{mostText, leftText, messageText, Tells, Toward}
 use Rattle.session.proofs.PutsLaws.{toward-next, lines-append}
 
 -- before the first
@@ -47,6 +47,17 @@ pub message-told : (tape text lent : List ℕ) (from n i at : ℕ) (s : Shown) (
 message-told tape text lent from n i at s m next place out r new h e q t d =
     rw (q, d .state, e)
     (toward-next text lent from (messageText (i + 1) s (messageIn (drop at tape))) (leftText tape n (i + 1) (placeAfter tape at) (step s (messageIn (drop at tape)) leastRoom .state)) out place (r .at) new (rw (left-next tape n i at s h) at t) (rw e at (d .puts)))
+
+-- no byte of it is left out where the output has room for it
+pub message-whole : (tape : List ℕ) (n i at : ℕ) (s : Shown) (m : Message) (next place : ℕ) (out : List ℕ) (r : Told) (new : List ℕ) (most total : ℕ) → i < n → messageOf m ≡ messageIn (drop at tape) → next ≡ placeAfter tape at
+    → Tells (messageText (i + 1) s (messageOf m)) (step s (messageOf m) leastRoom .state) out place r new → length (messageText (i + 1) s (messageOf m)) ≤ mostText → place ≤ most → most + mostText ≤ length out
+    → place + length (leftText tape n i at s) ≡ total → (r .at ≤ most + mostText) × (r .at + length (leftText tape n (i + 1) next (stateOf (r .state))) ≡ total)
+message-whole tape n i at s m next place out r new most total h e q d l p f t =
+    let k : length (leftText tape n i at s) ≡ length (messageText (i + 1) s (messageOf m)) + length (leftText tape n (i + 1) next (stateOf (r .state))) =
+    rw (q, d .state, e) (ap length (left-next tape n i at s h) ∙ length-append (messageText (i + 1) s (messageIn (drop at tape))) (leftText tape n (i + 1) (placeAfter tape at) (step s (messageIn (drop at tape)) leastRoom .state)))
+    in
+    let z = d .puts .place in
+    (omega (arith, z, l, p, f), omega (arith, z, l, p, f, t, k))
 
 -- behind the last message
 pub left-last : (tape : List ℕ) (n i at : ℕ) (s : Shown) → n ≤ i → leftText tape n i at s ≡ lineText (closing s)

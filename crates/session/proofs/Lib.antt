@@ -2,3 +2,4 @@ pub mod SetsLaws
 pub mod PutsLaws
 pub mod LineLaws
 pub mod LeftLaws
+pub mod TapeLaws

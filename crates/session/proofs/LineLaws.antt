@@ -2,11 +2,11 @@
 use mathlib.Core.Path.{_≡_, refl, ap, sym, _∙_}
 use mathlib.Core.Bool.{Bool, true, false}
 use mathlib.Core.List.{List, [], _∷_, _++_, append-nil}
-use Prim.Native.Nat.{ℕ, _≤_, min}
+use Prim.Native.Nat.{ℕ, _+_, _*_, _≤_, min}
 use native.Mathlib.Omega.{arith}
 use borrow.Author.Tests.{ne-eqb}
 use lib.Dec.{eqb}
-use lib.ListN.{length}
+use lib.ListN.{length, length-append}
 use Rattle.rules.specs.Basics.{pick}
 use Rattle.rules.specs.Messages.{Body, local, national, order, response, modify, cancel, clock}
 use Rattle.rules.specs.State.{State as Shown}
@@ -23,11 +23,11 @@ use Rattle.types.specs.declared.Opened.{Opened}
 use Rattle.types.specs.View.{stateOf, bodyOf, messageOf, openedOf}
 use Rattle.intake.specs.declared.Intake.{Intake as Taken}
 use Rattle.intake.specs.Taken.{actOf, intakeOf, numbered}
-use Rattle.engine.proofs.WorkLaws.{accepted-is, numbered-taken, step-accepted}
+use Rattle.engine.proofs.WorkLaws.{few-records, accepted-is, numbered-taken, step-accepted}
 use Rattle.phases.specs.declared.Phases.{Phases}
 use Rattle.phases.specs.Rest.{rest, emits, Goes, recordAt, later}
 use Rattle.text.specs.Text.{lineText, linesText}
-use Rattle.session.specs.Lines.{messageText, turnsText, setOff, Puts, Tells, Toward}
+use Rattle.session.specs.Lines.{mostLine, mostText, messageText, turnsText, setOff, Few, Puts, Tells, Toward}
 use Rattle.session.proofs.PutsLaws.{toward-next, toward-end}
 
 -- ---- a tape begins
@@ -75,11 +75,23 @@ pub tells-none : (q : Reply) (s : State) (lent : List ℕ) (at place : ℕ) (sho
 unfolding recordsOf
 tells-none q s lent at place shown e h p = rw e (record { puts = record { bytes = refl; place = omega (arith, p) }; state = h })
 
+pub few-none : (q : Reply) (shown : Shown) → q ≡ still shown → Few q
+unfolding recordsOf
+few-none q shown e = rw e (omega arith)
+
 -- the record at hand is put
 pub record-put : (text lent : List ℕ) (from : ℕ) (w r : Phases) (f : Fill) (out : List ℕ) (at place : ℕ) (new : List ℕ) → Toward text lent from (linesText (fillLines (emits w))) out at → emits w ≡ recordAt w ∷ later w → f ≡ recordAt w
     → Puts (lineText (fillLine f)) out at place new → emits r ≡ later w → Toward text lent from (linesText (fillLines (emits r))) new place
 record-put text lent from w r f out at place new t e h p n =
     rw n (toward-next text lent from (lineText (fillLine (recordAt w))) (linesText (fillLines (later w))) out at place new (rw e at t) (rw h at p))
+
+-- and its line is no more than a line may have
+pub record-few : (a n : ℕ) (w r : Phases) (f : Fill) → a + mostLine * length (emits w) ≤ length (linesText (fillLines (emits w))) + n → emits w ≡ recordAt w ∷ later w → f ≡ recordAt w → length (lineText (fillLine f)) ≤ mostLine → emits r ≡ later w
+    → a + mostLine * length (emits r) ≤ length (linesText (fillLines (emits r))) + n
+record-few a n w r f h e q l k =
+    let t : length (linesText (fillLines (emits w))) ≡ length (lineText (fillLine f)) + length (linesText (fillLines (emits r))) = rw (e, k, q) (length-append (lineText (fillLine (recordAt w))) (linesText (fillLines (later w)))) in
+    let c : length (emits w) ≡ length (emits r) + 1 = rw (e, k) (omega arith) in
+    omega (arith, h, l, t, c)
 
 -- none is left, and this is the state after the turns
 pub turns-told : (q : Reply) (lent : List ℕ) (from : ℕ) (w₀ w : Phases) (out : List ℕ) (at : ℕ) → Goes q w₀ → Toward (linesText (fillLines (emits w₀))) lent from (linesText (fillLines (emits w))) out at → emits w ≡ [] → rest w .state ≡ rest w₀ .state
@@ -87,18 +99,22 @@ pub turns-told : (q : Reply) (lent : List ℕ) (from : ℕ) (w₀ w : Phases) (o
 turns-told q lent from w₀ w out at g t e s h l =
     record { puts = rw (g .records) at (toward-end (linesText (fillLines (emits w₀))) lent from out at (rw e at t) l); state = sym h ∙ s ∙ g .state }
 
+-- all lines are no more than they may have
+pub few-all : (q : Reply) (w₀ w : Phases) → Goes q w₀ → emits w ≡ [] → length (linesText (fillLines (emits w₀))) + mostLine * length (emits w) ≤ length (linesText (fillLines (emits w))) + mostLine * length (emits w₀) → Few q
+few-all q w₀ w g e h = let k = rw (e, g .records) at h in omega (arith, k)
+
 -- the bytes of an accepted message, and the state after it
 pub accepted-text : (k : ℕ) (s : State) (m : Message) → refusal (stateOf s) (messageOf m) leastRoom ≡ 0
-    → (messageText k (stateOf s) (messageOf m) ≡ turnsText (setOff s m)) × (step (stateOf s) (messageOf m) leastRoom .state ≡ setOff s m .state)
+    → (messageText k (stateOf s) (messageOf m) ≡ turnsText (setOff s m)) × (step (stateOf s) (messageOf m) leastRoom .state ≡ setOff s m .state) × (length (recordsOf (setOff s m .turns)) ≤ leastRoom)
 unfolding accepted
 accepted-text k s m h =
     let q = accepted-is (stateOf s) (messageOf m) leastRoom h in
     let n = numbered-taken (stateOf s) (m .time) (q .1) (q .2) in
     let e = step-accepted (stateOf s) (messageOf m) leastRoom h in
-    (rw (e, n) (rw (none-refused k _ _ _ _) (ap linesText (append-nil (fillLines (accepted (stateOf s) (messageOf m) .fills))))), rw (e, n) refl)
+    (rw (e, n) (rw (none-refused k _ _ _ _) (ap linesText (append-nil (fillLines (accepted (stateOf s) (messageOf m) .fills))))), rw (e, n) refl, rw n (rw e at (few-records s (messageOf m) leastRoom)))
 
 -- the bytes of a refused one, which leaves the state
 pub refused-text : (k : ℕ) (s : State) (m : Message) → (refusal (stateOf s) (messageOf m) leastRoom ≡ 0 → ⊥)
-    → (messageText k (stateOf s) (messageOf m) ≡ linesText (refusedLine k (refusal (stateOf s) (messageOf m) leastRoom) ∷ [])) × (step (stateOf s) (messageOf m) leastRoom .state ≡ stateOf s)
+    → (messageText k (stateOf s) (messageOf m) ≡ lineText (refusedLine k (refusal (stateOf s) (messageOf m) leastRoom))) × (step (stateOf s) (messageOf m) leastRoom .state ≡ stateOf s)
 unfolding step
-refused-text k s m h = rw (ne-eqb (refusal (stateOf s) (messageOf m) leastRoom) 0 h) (refl, refl)
+refused-text k s m h = rw (ne-eqb (refusal (stateOf s) (messageOf m) leastRoom) 0 h) (append-nil (lineText (refusedLine k (refusal (stateOf s) (messageOf m) leastRoom))), refl)

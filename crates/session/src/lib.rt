@@ -7,11 +7,10 @@ ghost use lib.Seq.{sets};
 ghost use Rattle.rules.specs.Basics.{pick};
 ghost use Rattle.rules.specs.Print.{titleLine, fillLine, refusedLine, closing, linesOf};
 ghost use Rattle.types.specs.View.{fillOf, messageOf, stateOf};
-ghost use Rattle.text.specs.Text.{lineText};
 ghost use Rattle.rules.specs.Refusals.{leastRoom};
 ghost use Rattle.rules.specs.Step.{follow, step};
 ghost use Rattle.intake.specs.Taken.{actOf};
-ghost use Rattle.session.specs.Lines.{startLines, messageText, turnsText, setOff, Puts, Tells, Runs};
+ghost use Rattle.session.specs.Lines.{mostText, startLines, messageText, turnsText, setOff, Few, Puts, PutsLine, Tells, Runs};
 use types::Fill;
 use types::Message;
 use types::State;
@@ -102,7 +101,7 @@ fn put(out: &mut [u8], at: usize, line: &[u8; 128], n: usize) -> usize
 
 // The title.
 pub fn put_title(out: &mut [u8], at: usize) -> usize
-    ensures { λ r. ⌜ Puts (lineText titleLine) (now (out .entry)) at r (now (out .exit)) ⌝ }
+    ensures { λ r. ⌜ PutsLine titleLine (now (out .entry)) at r (now (out .exit)) ⌝ }
 {
     let mut line = [0u8; 128];
     let n = text::put_title(&mut line);
@@ -111,7 +110,7 @@ pub fn put_title(out: &mut [u8], at: usize) -> usize
 
 // A record.
 fn put_fill(out: &mut [u8], at: usize, f: Fill) -> usize
-    ensures { λ r. ⌜ Puts (lineText (fillLine (fillOf f))) (now (out .entry)) at r (now (out .exit)) ⌝ }
+    ensures { λ r. ⌜ PutsLine (fillLine (fillOf f)) (now (out .entry)) at r (now (out .exit)) ⌝ }
 {
     let mut line = [0u8; 128];
     let n = text::put_fill(&mut line, f);
@@ -120,7 +119,7 @@ fn put_fill(out: &mut [u8], at: usize, f: Fill) -> usize
 
 // "A refused line gives the tape position from 1, then the number".
 pub fn put_refused(out: &mut [u8], at: usize, position: usize, number: u32) -> usize
-    ensures { λ r. ⌜ Puts (lineText (refusedLine position number)) (now (out .entry)) at r (now (out .exit)) ⌝ }
+    ensures { λ r. ⌜ PutsLine (refusedLine position number) (now (out .entry)) at r (now (out .exit)) ⌝ }
 {
     let mut line = [0u8; 128];
     let n = text::put_refused(&mut line, position as u64, number);
@@ -129,7 +128,7 @@ pub fn put_refused(out: &mut [u8], at: usize, position: usize, number: u32) -> u
 
 // "the last line counts open orders and responses".
 pub fn put_last(out: &mut [u8], at: usize, s: State) -> usize
-    ensures { λ r. ⌜ Puts (lineText (closing (stateOf s))) (now (out .entry)) at r (now (out .exit)) ⌝ }
+    ensures { λ r. ⌜ PutsLine (closing (stateOf s)) (now (out .entry)) at r (now (out .exit)) ⌝ }
 {
     let mut line = [0u8; 128];
     let counts = scan::open_counts(&s.book.stages, s.book.count);
@@ -141,7 +140,7 @@ pub fn put_last(out: &mut [u8], at: usize, s: State) -> usize
 
 // The turns that a message sets off, record after record.
 fn turns(out: &mut [u8], from: usize, s: State, act: u8) -> Told
-    ensures { λ r. ⌜ Tells (turnsText (follow (stateOf s) (actOf act))) (follow (stateOf s) (actOf act) .state) (now (out .entry)) from r (now (out .exit)) ⌝ }
+    ensures { λ r. ⌜ Tells (turnsText (follow (stateOf s) (actOf act))) (follow (stateOf s) (actOf act) .state) (now (out .entry)) from r (now (out .exit)) × Few (follow (stateOf s) (actOf act)) ⌝ }
 {
     let mut at = lesser(from, out.len());
     let mut w = engine::follow(s, act);
@@ -157,7 +156,7 @@ fn turns(out: &mut [u8], from: usize, s: State, act: u8) -> Told
 
 // A message that is not refused.
 fn accepted(out: &mut [u8], at: usize, s: State, m: Message) -> Told
-    ensures { λ r. ⌜ Tells (turnsText (setOff s m)) (setOff s m .state) (now (out .entry)) at r (now (out .exit)) ⌝ }
+    ensures { λ r. ⌜ Tells (turnsText (setOff s m)) (setOff s m .state) (now (out .entry)) at r (now (out .exit)) × Few (setOff s m) ⌝ }
 {
     let i = intake::take_in(s, m);
     let state = i.state;
@@ -182,7 +181,7 @@ fn accepted(out: &mut [u8], at: usize, s: State, m: Message) -> Told
 
 // A message at a tape position: its records, or the refused line.
 pub fn tell(out: &mut [u8], at: usize, position: usize, s: State, m: Message) -> Told
-    ensures { λ r. ⌜ Tells (messageText position (stateOf s) (messageOf m)) (step (stateOf s) (messageOf m) leastRoom .state) (now (out .entry)) at r (now (out .exit)) ⌝ }
+    ensures { λ r. ⌜ Tells (messageText position (stateOf s) (messageOf m)) (step (stateOf s) (messageOf m) leastRoom .state) (now (out .entry)) at r (now (out .exit)) × (length (messageText position (stateOf s) (messageOf m)) ≤ mostText) ⌝ }
 {
     let strategy = s.strategy;
     let market = s.market;

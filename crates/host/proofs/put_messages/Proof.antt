@@ -23,7 +23,7 @@ returns c =
     let room = d .ensures .room (c .before .before .before .before .before .before .before .before .before .before .before .before .pre) in
     let same = d .ensures .toward .same in
     let t = rw (left-last (a .tape .now) (a .b .count) (l .position) (l .next) (stateOf (l .state)) (d .ensures .end (omega (arith, room, same)))) at (d .ensures .toward) in
-    rw (left-all (a .tape .now) (a .b .count) (a .b .at) (stateOf (a .b .state))) at (toward-last _ _ _ _ _ _ _ _ t (c .before .before .put-last .ensures))
+    rw (left-all (a .tape .now) (a .b .count) (a .b .at) (stateOf (a .b .state))) at (toward-last _ _ _ _ _ _ _ _ t (c .before .before .put-last .ensures .0))
 
 pub put-messages-spec : {M : Type 1} → statement M
 put-messages-spec = tie.close (tie.spec run-requires put-last-requires same-length returns)

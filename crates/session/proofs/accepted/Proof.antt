@@ -2,8 +2,8 @@ use mathlib.Core.Path.{refl, sym, _∙_, subst}
 use Rattle.rules.specs.Execution.{Reply}
 use Rattle.types.specs.View.{entryAt}
 use Rattle.engine.proofs.WorkLaws.{quiet-still}
-use Rattle.session.proofs.LineLaws.{set-off, tells-none}
-use Rattle.session.specs.Lines.{turnsText, Tells}
+use Rattle.session.proofs.LineLaws.{set-off, tells-none, few-none}
+use Rattle.session.specs.Lines.{turnsText, Few, Tells}
 use borrow.Author.Needs.{needs}
 use Rattle.session.proofs.accepted.Statement.{statement}
 use Rattle.session.proofs.accepted.Tie as tie
@@ -22,7 +22,8 @@ returns c =
     let a = c .before .before .before .before .before .before .before .before .before .before .before .before .args in
     let i = c .before .before .before .before .before .before .before .before .before .before .take-in in
     let e = quiet-still (i .result .state) (i .result .act) (sym (c .before .before .is-quiet .ensures (entryAt (i .result .state .book)) (λ k. refl) (λ k. refl) (λ k. refl)) ∙ c .before .if1 .taken) in
-    tells-none _ (i .result .state) _ _ _ _ (sym (set-off (a .s) (a .m) (i .result) (i .ensures)) ∙ e) refl (c .lesser .ensures)
+    let q = sym (set-off (a .s) (a .m) (i .result) (i .ensures)) ∙ e in
+    (tells-none _ (i .result .state) _ _ _ _ q refl (c .lesser .ensures), few-none _ _ q)
 
 turns-requires : tie.Need-turns-requires
 turns-requires c κs = search needs
@@ -34,7 +35,7 @@ returns-2 : tie.Need-returns-2
 returns-2 c =
     let a = c .before .before .before .before .before .before .before .before .before .before .before .before .before .before .before .args in
     let i = c .before .before .before .before .before .before .before .before .before .before .before .before .before .take-in in
-    subst (λ (q : Reply). Tells (turnsText q) (q .state) (a .out .now) (a .at) (c .before .before .turns .result) (c .before .before .turns .last .0)) (set-off (a .s) (a .m) (i .result) (i .ensures)) (c .before .before .turns .ensures)
+    subst (λ (q : Reply). Tells (turnsText q) (q .state) (a .out .now) (a .at) (c .before .before .turns .result) (c .before .before .turns .last .0) × Few q) (set-off (a .s) (a .m) (i .result) (i .ensures)) (c .before .before .turns .ensures)
 
 pub accepted-spec : {M : Type 1} → statement M
 accepted-spec =

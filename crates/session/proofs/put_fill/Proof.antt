@@ -1,3 +1,4 @@
+use native.Mathlib.Omega.{arith}
 use Rattle.rules.specs.Print.{fillLine}
 use Rattle.types.specs.View.{fillOf}
 use Rattle.session.proofs.PutsLaws.{puts-line}
@@ -15,7 +16,7 @@ same-length : tie.Need-same-length
 same-length c = search needs
 
 returns : tie.Need-returns
-returns c = let l = c .before .before .before .before .before .put-fill .ensures in puts-line (fillLine (fillOf (c .before .before .before .before .before .before .before .before .args .f))) _ _ _ _ _ _ _ (l .0) (l .1) (c .before .before .put .ensures)
+returns c = let l = c .before .before .before .before .before .put-fill .ensures in (puts-line (fillLine (fillOf (c .before .before .before .before .before .before .before .before .args .f))) _ _ _ _ _ _ _ (l .0) (l .1) (c .before .before .put .ensures), omega (arith, l .0, l .2))
 
 pub put-fill-spec : {M : Type 1} → statement M
 put-fill-spec = tie.close (tie.spec put-fill-requires put-requires same-length returns)

@@ -1,3 +1,5 @@
+use native.Mathlib.Omega.{arith}
+use Rattle.session.specs.Lines.{PutsLine}
 use Rattle.rules.specs.Print.{lastLine}
 use mathlib.Core.Path.{refl}
 use Rattle.types.specs.View.{entryAt}
@@ -24,7 +26,8 @@ returns c =
     let l = c .before .before .before .before .before .put-last .ensures in
     let n = c .before .before .before .before .before .before .before .open-counts .ensures (entryAt (s .book)) (λ i. refl) in
     let h = c .before .before .before .before .before .before .before .open-counts .result in
-    rw (n .0, n .1) at (puts-line (lastLine (h .orders) (h .responses)) _ _ _ _ _ _ _ (l .0) (l .1) (c .before .before .put .ensures))
+    let line : PutsLine (lastLine (h .orders) (h .responses)) _ _ _ _ = (puts-line (lastLine (h .orders) (h .responses)) _ _ _ _ _ _ _ (l .0) (l .1) (c .before .before .put .ensures), omega (arith, l .0, l .2)) in
+    rw (n .0, n .1) at line
 
 pub put-last-spec : {M : Type 1} → statement M
 put-last-spec =

@@ -1,3 +1,4 @@
+use native.Mathlib.Omega.{arith}
 use Rattle.rules.specs.Print.{refusedLine}
 use Rattle.session.proofs.PutsLaws.{puts-line}
 use borrow.Author.Needs.{needs}
@@ -14,7 +15,7 @@ same-length : tie.Need-same-length
 same-length c = search needs
 
 returns : tie.Need-returns
-returns c = let l = c .before .before .before .before .before .put-refused .ensures in puts-line (refusedLine (c .before .before .before .before .before .before .before .before .args .position) (c .before .before .before .before .before .before .before .before .args .number)) _ _ _ _ _ _ _ (l .0) (l .1) (c .before .before .put .ensures)
+returns c = let l = c .before .before .before .before .before .put-refused .ensures in (puts-line (refusedLine (c .before .before .before .before .before .before .before .before .args .position) (c .before .before .before .before .before .before .before .before .args .number)) _ _ _ _ _ _ _ (l .0) (l .1) (c .before .before .put .ensures), omega (arith, l .0, l .2))
 
 pub put-refused-spec : {M : Type 1} → statement M
 put-refused-spec = tie.close (tie.spec put-refused-requires put-requires same-length returns)

@@ -1,4 +1,4 @@
-use mathlib.Core.List.{append-nil}
+use native.Mathlib.Omega.{arith}
 use mathlib.Core.Path.{refl, sym, _∙_}
 use Rattle.types.specs.View.{entryAt}
 use Rattle.session.proofs.LineLaws.{accepted-text, refused-text}
@@ -19,7 +19,10 @@ returns : tie.Need-returns
 returns c =
     let a = c .before .before .before .before .before .before .before .before .before .before .before .before .before .before .before .args in
     let e = accepted-text (a .position) (a .t4) (a .m) (sym (c .before .before .before .before .before .refusal .ensures (entryAt (a .t4 .book)) (λ i. refl) (λ i. refl) (λ i. refl)) ∙ c .before .before .before .before .if1 .taken) in
-    rw (e .0, e .1) (c .before .before .accepted .ensures)
+    let r = c .before .before .accepted .ensures in
+    let l = r .1 in
+    let n = e .2 in
+    (rw (e .0, e .1) (r .0), rw (e .0) (omega (arith, l, n)))
 
 put-refused-requires : tie.Need-put-refused-requires
 put-refused-requires c κs = search needs
@@ -32,7 +35,8 @@ returns-2 c =
     let a = c .before .before .before .before .before .before .before .before .before .before .before .before .before .before .before .args in
     let n = c .before .before .before .before .before .refusal .ensures (entryAt (a .t4 .book)) (λ i. refl) (λ i. refl) (λ i. refl) in
     let e = refused-text (a .position) (a .t4) (a .m) (λ z. c .before .before .before .before .if1 .left (n ∙ z)) in
-    record { puts = rw (e .0, append-nil _) (rw n at (c .before .before .put-refused .ensures)); state = sym (e .1) }
+    let p = rw n at (c .before .before .put-refused .ensures) in
+    (record { puts = rw (e .0) (p .0); state = sym (e .1) }, rw (e .0) (let l = p .1 in omega (arith, l)))
 
 pub tell-spec : {M : Type 1} → statement M
 tell-spec =
