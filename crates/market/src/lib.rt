@@ -1,13 +1,12 @@
 // Leg quotes: derived bid and ask with their units, what a fill takes from the legs, the filter, quotes taken in.
 ghost use mathlib.Core.Path.{_≡_};
-ghost use mathlib.Core.Bool.{Bool, true, false, _&&_};
-ghost use Prim.Native.Nat.{ℕ, _+_, _-_, _*_, _/_, _≤_, _<_, min};
+ghost use mathlib.Core.Bool.{true, false};
+ghost use Prim.Native.Nat.{_+_, _-_, _*_, _/_, _≤_, _<_, min};
 ghost use lib.Dec.{ltb};
 ghost use Rattle.rules.specs.Basics.{pick};
-ghost use Rattle.rules.specs.Strategy.{isB};
-ghost use Rattle.rules.specs.Prices.{mostCents, usesAsk, unitsShown, over as overOf, net as netOf, least as leastOf, leastFrom, derived as derivedRule, lowerQuote, lower as lowerOf};
+ghost use Rattle.rules.specs.Prices.{usesAsk, unitsShown, over as overOf, net as netOf, least as leastOf, derived as derivedRule, lowerQuote, lower as lowerOf};
 ghost use Rattle.rules.specs.Filter.{allNational, amountFor, legPrice, smaller as smallerOf, smallest as smallestRule, smallestRatio as smallestRatioOf, beyond as beyondOf, filtered as filteredOf};
-ghost use Rattle.types.specs.View.{legOf, legAt, quoteOf, quoteAt, from, legCount, strategyOf, settingsOf, marketOf, derivedOf, localOf, nationalOf};
+ghost use Rattle.types.specs.View.{legOf, quoteOf, legCount, strategyOf, settingsOf, marketOf, derivedOf, localOf, nationalOf};
 ghost use Rattle.rules.specs.Step.{localQuote, nationalQuote};
 ghost use Rattle.market.specs.Uses.{priceUsed, sizeUsed, partOf, legPriceOf, Replaces};
 use types::Amounts;

@@ -1,6 +1,6 @@
 // Signed cents and prices as held, the cents plus 40,000,000. Signed numbers are taken apart here and nowhere else.
 ghost use mathlib.Core.Path.{_≡_};
-ghost use Prim.Native.Nat.{_+_, _-_, _<_, _≤_, min};
+ghost use Prim.Native.Nat.{_+_, _-_, _<_, min};
 ghost use lib.IntN.{negsuc};
 ghost use Rattle.rules.specs.Prices.{isLimit, offset as offsetOf, cents as centsOf};
 ghost use Rattle.rules.specs.Refusals.{natural as naturalOf, goodLocal, goodNational};

@@ -1,7 +1,7 @@
 -- The lines of a tape and of its messages.
 use mathlib.Core.Path.{_≡_, refl, ap, sym, _∙_}
 use mathlib.Core.Bool.{Bool, true, false}
-use mathlib.Core.List.{List, [], _∷_, _++_, append-nil}
+use mathlib.Core.List.{List, [], _∷_, append-nil}
 use Prim.Native.Nat.{ℕ, _+_, _*_, _≤_, min}
 use native.Mathlib.Omega.{arith}
 use borrow.Author.Tests.{ne-eqb}
@@ -13,7 +13,7 @@ use Rattle.rules.specs.State.{State as Shown}
 use Rattle.rules.specs.Refusals.{leastRoom, refusal}
 use Rattle.rules.specs.Turn.{Fill}
 use Rattle.rules.specs.Execution.{Reply, still}
-use Rattle.rules.specs.Step.{Act, goesOn, begins, joining, ends, Intake, takeIn, follow, recordsOf, outcomeOf, accepted, turnedBack, step}
+use Rattle.rules.specs.Step.{Act, goesOn, begins, joining, ends, Intake, takeIn, follow, recordsOf, outcomeOf, accepted, step}
 use Rattle.rules.specs.Tape.{tapeRefusal, strategyOf, messagesOf, tapeOf}
 use Rattle.rules.specs.Run.{opening}
 use Rattle.rules.specs.Print.{titleLine, fillLine, refusedLine, fillLines, refusedLines, linesFrom, openedLines, linesOf}
@@ -27,7 +27,7 @@ use Rattle.engine.proofs.WorkLaws.{few-records, accepted-is, numbered-taken, st
 use Rattle.phases.specs.declared.Phases.{Phases}
 use Rattle.phases.specs.Rest.{rest, emits, Goes, recordAt, later}
 use Rattle.text.specs.Text.{lineText, linesText}
-use Rattle.session.specs.Lines.{mostLine, mostText, messageText, turnsText, setOff, Few, Puts, Tells, Toward}
+use Rattle.session.specs.Lines.{mostLine, messageText, turnsText, setOff, Few, Puts, Tells, Toward}
 use Rattle.session.proofs.PutsLaws.{toward-next, toward-end}
 
 -- ---- a tape begins

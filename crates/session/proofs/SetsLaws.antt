@@ -4,8 +4,8 @@ use mathlib.Core.List.{List, [], _∷_, _++_}
 use Prim.Native.Nat.{ℕ, zero, suc, _+_, _-_, _≤_, _<_, min}
 use native.Mathlib.Decide.{decLt}
 use native.Mathlib.Omega.{arith}
-use lib.ListN.{length, set, getD, take, drop, length-set}
-use lib.Seq.{sets, length-sets}
+use lib.ListN.{length, set, getD, take, drop}
+use lib.Seq.{sets}
 
 set-past : (l : List ℕ) (k x : ℕ) → length l ≤ k → set l k x ≡ l
 set-past [] k x h = refl

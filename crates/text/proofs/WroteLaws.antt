@@ -3,11 +3,9 @@ use mathlib.Core.Path.{_≡_, sym, subst, _∙_}
 use mathlib.Core.List.{List, [], _∷_, _++_}
 use Prim.Native.Nat.{ℕ, suc, _+_, _≤_, _<_}
 use native.Mathlib.Omega.{arith}
-use lib.ListN.{length, take, drop, getD, set, length-append, drop-of-length-le}
-use lib.Seq.{sets, sets-eq, length-sets, drop-cons, take-at}
-use Rattle.rules.specs.Print.{Line}
-use Rattle.text.specs.Text.{lineText}
-use Rattle.text.specs.Places.{Wrote, Put, Printed}
+use lib.ListN.{length, drop, getD, set, length-append, drop-of-length-le}
+use lib.Seq.{sets, sets-eq, length-sets, drop-cons}
+use Rattle.text.specs.Places.{Wrote, Put}
 
 sets-append : (xs ys l : List ℕ) (at : ℕ) → sets l at (xs ++ ys) ≡ sets (sets l at xs) (at + length xs) ys
 sets-append [] ys l at = let e : at + 0 ≡ at = omega arith in rw e
@@ -46,9 +44,3 @@ word-step w l at i h =
 
 pub word-end : (w l : List ℕ) (at i : ℕ) → length w ≤ i → sets l (at + i) (drop i w) ≡ l
 word-end w l at i h = rw (drop-of-length-le w h)
-
--- ---- for who prints the line
-
--- the first r bytes are the line's
-pub printed-bytes : (line : Line) (l m : List ℕ) (r : ℕ) → Printed line l r m → take r m ≡ lineText line
-printed-bytes line l m r p = rw (p .1) (take-at (lineText line) (drop (length (lineText line)) l) r (sym (p .0)))

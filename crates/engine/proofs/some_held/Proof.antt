@@ -1,6 +1,5 @@
 use mathlib.Core.Path.{_≡_, refl, sym, _∙_}
 use Prim.Native.Nat.{ℕ, _-_, _≤_}
-use native.Mathlib.Omega.{arith}
 use Rattle.rules.specs.Book.{Entry, isHeld, any}
 use Rattle.types.specs.View.{from}
 use Rattle.scan.specs.Columns.{HasStages}

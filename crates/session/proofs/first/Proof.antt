@@ -1,6 +1,5 @@
 use mathlib.Core.Path.{refl}
 use borrow.Author.Tests.{ne-eqb}
-use borrow.Author.Needs.{needs}
 use Rattle.session.proofs.first.Statement.{statement}
 use Rattle.session.proofs.first.Tie as tie
 
