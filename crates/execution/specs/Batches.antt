@@ -47,7 +47,7 @@ pub record IsBatch (mode : Mode) (a : Auction) (d : P.Derived) (b : Book) (k : �
 
 -- the state in which a turn begins
 abbrev pub before : Strategy → Market → Book → Auction → T.Clock → T.State
-before s m b a c = record { strategy = strategyOf s; market = marketOf m (legCount s); book = entriesOf b; auction = auctionOf a; clock = c }
+before s m b a c = T.stateFrom (strategyOf s) (marketOf m (legCount s)) (entriesOf b) (auctionOf a) c
 
 -- what the turn of the order at place k leaves: the book, the market and the records
 pub record AfterTurn (mode : Mode) (s : Strategy) (m : Market) (b : Book) (a : Auction) (k : ℕ) (r : Executed) (c : T.Clock) : Type 0 where

@@ -1,6 +1,6 @@
 -- What a message taken in stands for in the rules.
 use mathlib.Core.Bool.{Bool, _&&_}
-use mathlib.Core.List.{List}
+use mathlib.Core.List.{List, [], _∷_}
 use Prim.Native.Nat.{ℕ, min}
 use lib.Dec.{eqb}
 use Rattle.rules.specs.Basics.{pick}
@@ -27,16 +27,16 @@ intakeOf i = record { state = stateOf (i .state); act = actOf (i .act) }
 
 -- a state of which the strategy, the quotes and the entries count, and nothing else is known
 abbrev pub seen : Strategy → Market → List B.Entry → T.State
-seen g m es = record { strategy = strategyOf g; market = marketOf m (legCount g); book = es; auction = T.none; clock = record { next = 0; time = 0 } }
+seen g m es = T.stateFrom (strategyOf g) (marketOf m (legCount g)) es T.none (record { next = 0; time = 0 })
 
 -- what is known of an auction while it is pending
 abbrev pub pendingOf : Auction → T.Pending
-pendingOf a = record { buy = a .buy; deadline = a .deadline; start = derivedOf (a .start) }
+pendingOf a = record { buy = a .buy; deadline = a .deadline; start = derivedOf (a .start) ∷ [] }
 
 -- a state whose next number and a time that are not above the greatest accepted ones
 abbrev pub numbered : T.State → ℕ → T.State
 numbered s time =
-    T.taken (record { strategy = s .strategy; market = s .market; book = s .book; auction = s .auction; clock = record { next = min (s .clock .next) mostNumber; time = s .clock .time } }) (min time mostTime)
+    T.taken (T.stateFrom (s .strategy) (s .market) (s .book) (s .auction) (record { next = min (s .clock .next) mostNumber; time = s .clock .time })) (min time mostTime)
 
 -- an order with no auction pending
 abbrev pub outside : T.State → Bool → B.Entry → R.Intake

@@ -10,5 +10,4 @@ use Rattle.types.specs.View.{legCount, strategyOf, marketOf, auctionOf, clockOf
 
 -- the state with these open entries
 abbrev pub shownState : Strategy → Market → List Entry → Auction → Clock → T.State
-shownState s m b a c =
-    record { strategy = strategyOf s; market = marketOf m (legCount s); book = b; auction = auctionOf a; clock = clockOf c }
+shownState s m b a c = T.stateFrom (strategyOf s) (marketOf m (legCount s)) b (auctionOf a) (clockOf c)

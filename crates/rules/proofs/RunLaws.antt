@@ -11,13 +11,13 @@ use Rattle.rules.specs.Messages.{Body, Message}
 use Rattle.rules.specs.Refusals.{refusal}
 use Rattle.rules.specs.State.{Clock, Auction, none, pending, State, taken}
 use Rattle.rules.specs.Execution.{Reply, still}
-use Rattle.rules.specs.Step.{Act, goesOn, begins, joining, ends, Intake, takeIn, quiet, follow, Answer, answered, accepted, step}
+use Rattle.rules.specs.Step.{Act, goesOn, begins, joining, ends, Intake, takeIn, quiet, follow, Answer, answered, acted, accepted, step}
 use Rattle.rules.specs.Run.{Opened, refusedOpening, started, startOf, opening, Sent, answerTo, answers}
 use Rattle.rules.specs.Demand.{GoodTurn, Told, Good, Demand3OfRules}
 use Rattle.rules.specs.Reached.{Inv}
 use Rattle.rules.proofs.ServeLaws.{Kept, steps-kept, ending-kept}
 use Rattle.rules.proofs.ClaimLaws.{told}
-use Rattle.rules.proofs.IntakeLaws.{kind-none, taken-inv, taken-earlier, take-inv, take-clock, start-inv}
+use Rattle.rules.proofs.IntakeLaws.{Admitted, admitted, take-inv, take-clock, start-inv}
 
 still-kept : (n : ℕ) (s : State) → Inv s → Kept n (still s)
 still-kept n s v = record { inv = v; good = tt; apart = tt }
@@ -26,7 +26,7 @@ quiet-kept : (s : State) (a : Auction) → Inv s → Kept (s .clock .next - 1) (
 quiet-kept s none v = steps-kept s v
 quiet-kept s (pending p) v = still-kept (s .clock .next - 1) s v
 
-follow-kept : (s : State) (a : Act) → Inv s → Kept (s .clock .next - 1) (follow s a)
+pub follow-kept : (s : State) (a : Act) → Inv s → Kept (s .clock .next - 1) (follow s a)
 follow-kept s goesOn v = quiet-kept s (s .auction) v
 follow-kept s begins v = still-kept (s .clock .next - 1) s v
 follow-kept s joining v = still-kept (s .clock .next - 1) s v
@@ -37,17 +37,19 @@ pub record Fine (n : ℕ) (a : Answer) : Type 0 where
   pub inv : Inv (a .state)
   pub told : Told (GoodTurn n) (a .turns) (a .fills)
 
-answered-fine : (n : ℕ) (b : Body) (a : Act) (r : Reply) → Kept n r → Fine n (answered b a r)
+pub answered-fine : (n : ℕ) (b : Body) (a : Act) (r : Reply) → Kept n r → Fine n (answered b a r)
 answered-fine n b a r k = record { inv = k .inv; told = told n (r .turns) (k .good) (k .apart) }
+
+pub acted-fine : (s : State) (b : Body) → Admitted s b → Fine (s .clock .next - 1) (acted s b)
+unfolding acted
+acted-fine s b a =
+    let i : Intake = takeIn s b in
+    answered-fine (s .clock .next - 1) b (i .act) (follow (i .state) (i .act))
+    (subst (λ (c : Clock). Kept (c .next - 1) (follow (i .state) (i .act))) (take-clock s b) (follow-kept (i .state) (i .act) (take-inv s b a)))
 
 accepted-fine : (s : State) (m : Message) (room : ℕ) → Inv s → refusal s m room ≡ 0 → Fine (s .clock .next) (accepted s m)
 unfolding accepted
-accepted-fine s m room v h =
-    let t : State = taken s (m .time) in
-    let i : Intake = takeIn t (m .body) in
-    let w : Inv (i .state) = take-inv t s (m .body) refl refl (omega arith) (taken-inv s (m .time) v) (taken-earlier s (m .time) v) (kind-none s m room h) in
-    let n : i .state .clock .next - 1 ≡ s .clock .next = ap (λ (c : Clock). c .next - 1) (take-clock t (m .body)) ∙ back (s .clock .next) in
-    answered-fine (s .clock .next) (m .body) (i .act) (follow (i .state) (i .act)) (subst (λ (x : ℕ). Kept x (follow (i .state) (i .act))) n (follow-kept (i .state) (i .act) w))
+accepted-fine s m room v h = subst (λ (n : ℕ). Fine n (acted (taken s (m .time)) (m .body))) (back (s .clock .next)) (acted-fine (taken s (m .time)) (m .body) (admitted s m room v h))
   where
     back : (x : ℕ) → x + 1 - 1 ≡ x
     back x = omega arith

@@ -8,7 +8,7 @@ use native.Mathlib.Omega.{arith}
 use lib.Dec.{eqb}
 use lib.ListN.{length, getD, drop, length-drop}
 use lib.Seq.{drop-cons, take-all}
-use Rattle.rules.specs.Series.{allBytes}
+use Rattle.rules.specs.Basics.{all}
 use Rattle.rules.specs.Strategy.{sameBytes}
 use Rattle.series.specs.Parts.{part}
 
@@ -25,14 +25,14 @@ pub part-rest : (s : List ℕ) (k n : ℕ) → length s ≤ n → part s k n ≡
 part-rest s k n l = take-all (n - k) (drop k s) (rw length-drop (omega arith))
 
 module _ (f : ℕ → Bool) (s : List ℕ) (k n : ℕ) (l : n ≤ length s) (h : k < n) where
-  pub all-go : f (getD s k 0) ≡ true → allBytes f (part s k n) ≡ allBytes f (part s (k + 1) n)
-  all-go e = ap (allBytes f) (part-cons s k n l h) ∙ ap (λ (b : Bool). b && allBytes f (part s (k + 1) n)) e
+  pub all-go : f (getD s k 0) ≡ true → all f (part s k n) ≡ all f (part s (k + 1) n)
+  all-go e = ap (all f) (part-cons s k n l h) ∙ ap (λ (b : Bool). b && all f (part s (k + 1) n)) e
 
-  pub all-stop : f (getD s k 0) ≡ false → allBytes f (part s k n) ≡ false
-  all-stop e = ap (allBytes f) (part-cons s k n l h) ∙ ap (λ (b : Bool). b && allBytes f (part s (k + 1) n)) e
+  pub all-stop : f (getD s k 0) ≡ false → all f (part s k n) ≡ false
+  all-stop e = ap (all f) (part-cons s k n l h) ∙ ap (λ (b : Bool). b && all f (part s (k + 1) n)) e
 
-pub all-end : (f : ℕ → Bool) (s : List ℕ) (k n : ℕ) → n ≤ k → allBytes f (part s k n) ≡ true
-all-end f s k n h = ap (allBytes f) (part-end s k n h)
+pub all-end : (f : ℕ → Bool) (s : List ℕ) (k n : ℕ) → n ≤ k → all f (part s k n) ≡ true
+all-end f s k n h = ap (all f) (part-end s k n h)
 
 module _ (a b : List ℕ) (k n : ℕ) (l : n ≤ length a) (m : n ≤ length b) (h : k < n) where
   same-at : (t : Bool) → eqb (getD a k 0) (getD b k 0) ≡ t → sameBytes (part a k n) (part b k n) ≡ (t && sameBytes (part a (k + 1) n) (part b (k + 1) n))

@@ -7,8 +7,8 @@ use native.Mathlib.Omega.{arith}
 use borrow.Author.Tests.{eqb-true, eq-eqb, ne-eqb, le-leb, lt-ltb}
 use lib.Dec.{eqb, ltb}
 use lib.ListN.{length, getD, drop}
-use Rattle.rules.specs.Basics.{between}
-use Rattle.rules.specs.Series.{allBytes, isCapital, isDigit, isSpace, isPadded, digits, yearOf, monthOf, goodRoot, goodDate, goodType, goodStrike, goodSymbol}
+use Rattle.rules.specs.Basics.{between, all}
+use Rattle.rules.specs.Series.{isCapital, isDigit, isSpace, isPadded, digits, yearOf, monthOf, goodRoot, goodDate, goodType, goodStrike, goodSymbol}
 use Rattle.rules.proofs.TestLaws.{and-left, and-right, between-low, between-high}
 use Rattle.series.specs.Parts.{part}
 use Rattle.series.proofs.PartLaws.{part-cons, part-end, part-rest}
@@ -29,7 +29,7 @@ between-same b n e = rw (le-leb n b (omega arith), le-leb b n (omega arith))
 
 -- ---- the root
 
-pub space-between : (bs : List ℕ) → allBytes isSpace bs ≡ allBytes (λ b. between 32 b 32) bs
+pub space-between : (bs : List ℕ) → all isSpace bs ≡ all (λ b. between 32 b 32) bs
 space-between [] = refl
 space-between (b ∷ bs) =
     let e : isSpace b ≡ between 32 b 32 =
@@ -43,10 +43,10 @@ module _ (s : List ℕ) (k : ℕ) (l : 6 ≤ length s) (h : k < 6) where
       let n : isSpace (getD s k 0) ≡ false = ne-eqb (getD s k 0) 32 (λ z. omega (arith, between-low 65 (getD s k 0) 90 e)) in
       rw (part-cons s k 6 l h, e, n) (or-false (isPadded (part s (k + 1) 6)))
 
-  pub padded-stop : isCapital (getD s k 0) ≡ false → isPadded (part s k 6) ≡ allBytes isSpace (part s k 6)
+  pub padded-stop : isCapital (getD s k 0) ≡ false → isPadded (part s k 6) ≡ all isSpace (part s k 6)
   padded-stop e = rw (part-cons s k 6 l h, e)
 
-pub padded-end : (s : List ℕ) (k : ℕ) → 6 ≤ k → isPadded (part s k 6) ≡ allBytes isSpace (part s k 6)
+pub padded-end : (s : List ℕ) (k : ℕ) → 6 ≤ k → isPadded (part s k 6) ≡ all isSpace (part s k 6)
 padded-end s k h = rw (part-end s k 6 h)
 
 -- ---- numbers
@@ -57,11 +57,11 @@ digits-two s k l =
     rw (part-cons s k (k + 2) l (omega arith), part-cons s (k + 1) (k + 2) l (omega arith), part-end s (k + 1 + 1) (k + 2) (omega arith)) (omega arith)
 
 -- digits write 0 where each is 0
-digits-zero : (bs : List ℕ) (n : ℕ) → allBytes isDigit bs ≡ true → ltb 0 (digits n bs) ≡ not (eqb n 0 && allBytes (λ b. between 48 b 48) bs)
+digits-zero : (bs : List ℕ) (n : ℕ) → all isDigit bs ≡ true → ltb 0 (digits n bs) ≡ not (eqb n 0 && all (λ b. between 48 b 48) bs)
 digits-zero [] zero h = refl
 digits-zero [] (suc n) h = rw (lt-ltb 0 (suc n) (omega arith), ne-eqb (suc n) 0 (λ e. omega arith))
 digits-zero (b ∷ bs) n h =
-    let low : 48 ≤ b = between-low 48 b 57 (and-left (isDigit b) (allBytes isDigit bs) h) in
+    let low : 48 ≤ b = between-low 48 b 57 (and-left (isDigit b) (all isDigit bs) h) in
     let m : ℕ = n * 10 + (b - 48) in
     let e : eqb m 0 ≡ (eqb n 0 && between 48 b 48) =
     same-test (eqb m 0) (eqb n 0 && between 48 b 48)
@@ -71,14 +71,14 @@ digits-zero (b ∷ bs) n h =
     let q : b ≤ 48 = between-high 48 b 48 (and-right (eqb n 0) (between 48 b 48) z) in
     eq-eqb m 0 (omega arith))
     in
-    digits-zero bs m (and-right (isDigit b) (allBytes isDigit bs) h)
-    ∙ ap (λ (t : Bool). not (t && allBytes (λ c. between 48 c 48) bs)) e
-    ∙ ap not (and-assoc (eqb n 0) (between 48 b 48) (allBytes (λ c. between 48 c 48) bs))
+    digits-zero bs m (and-right (isDigit b) (all isDigit bs) h)
+    ∙ ap (λ (t : Bool). not (t && all (λ c. between 48 c 48) bs)) e
+    ∙ ap not (and-assoc (eqb n 0) (between 48 b 48) (all (λ c. between 48 c 48) bs))
 
-pub strike-is : (s : List ℕ) → length s ≡ 21 → goodStrike s ≡ (allBytes isDigit (part s 13 21) && not (allBytes (λ b. between 48 b 48) (part s 13 21)))
+pub strike-is : (s : List ℕ) → length s ≡ 21 → goodStrike s ≡ (all isDigit (part s 13 21) && not (all (λ b. between 48 b 48) (part s 13 21)))
 strike-is s l =
     let e : part s 13 21 ≡ drop 13 s = part-rest s 13 21 (omega arith) in
-    rw e (and-if (allBytes isDigit (drop 13 s)) (ltb 0 (digits 0 (drop 13 s))) (not (allBytes (λ b. between 48 b 48) (drop 13 s))) (digits-zero (drop 13 s) 0))
+    rw e (and-if (all isDigit (drop 13 s)) (ltb 0 (digits 0 (drop 13 s))) (not (all (λ b. between 48 b 48) (drop 13 s))) (digits-zero (drop 13 s) 0))
 
 -- ---- the date
 
@@ -92,18 +92,18 @@ year-most : (s : List ℕ) → length s ≡ 21 → goodDate s ≡ true → yearO
 year-most s l d =
     let a : Bool = isDigit (getD s 6 0) in
     let b : Bool = isDigit (getD s 7 0) in
-    let all : (a && (b && allBytes isDigit (part s 8 12))) ≡ true =
-    sym (ap (allBytes isDigit) (part-cons s 6 12 (omega arith) (omega arith) ∙ ap (λ (r : List ℕ). getD s 6 0 ∷ r) (part-cons s 7 12 (omega arith) (omega arith))))
-    ∙ and-left (allBytes isDigit (part s 6 12)) (between 1 (monthOf s) 12) d
+    let six : (a && (b && all isDigit (part s 8 12))) ≡ true =
+    sym (ap (all isDigit) (part-cons s 6 12 (omega arith) (omega arith) ∙ ap (λ (r : List ℕ). getD s 6 0 ∷ r) (part-cons s 7 12 (omega arith) (omega arith))))
+    ∙ and-left (all isDigit (part s 6 12)) (between 1 (monthOf s) 12) d
     in
-    let p : getD s 6 0 ≤ 57 = between-high 48 (getD s 6 0) 57 (and-left a (b && allBytes isDigit (part s 8 12)) all) in
-    let q : getD s 7 0 ≤ 57 = between-high 48 (getD s 7 0) 57 (and-left b (allBytes isDigit (part s 8 12)) (and-right a (b && allBytes isDigit (part s 8 12)) all)) in
+    let p : getD s 6 0 ≤ 57 = between-high 48 (getD s 6 0) 57 (and-left a (b && all isDigit (part s 8 12)) six) in
+    let q : getD s 7 0 ≤ 57 = between-high 48 (getD s 7 0) 57 (and-left b (all isDigit (part s 8 12)) (and-right a (b && all isDigit (part s 8 12)) six)) in
     omega (arith, digits-two s 6 (omega arith))
 
 -- a good date's month stands in the table
 pub month-in : (s : List ℕ) → length s ≡ 21 → goodDate s ≡ true → (1 ≤ monthOf s) × (yearOf s * 12 + (monthOf s - 1) < 1_200)
 month-in s l d =
-    let m : between 1 (monthOf s) 12 ≡ true = and-right (allBytes isDigit (part s 6 12)) (between 1 (monthOf s) 12) d in
+    let m : between 1 (monthOf s) 12 ≡ true = and-right (all isDigit (part s 6 12)) (between 1 (monthOf s) 12) d in
     let low : 1 ≤ monthOf s = between-low 1 (monthOf s) 12 m in
     let high : monthOf s ≤ 12 = between-high 1 (monthOf s) 12 m in
     (low, omega (arith, year-most s l d))

@@ -2,8 +2,8 @@
 ghost use mathlib.Core.Path.{_≡_};
 ghost use mathlib.Core.Bool.{_&&_};
 ghost use Prim.Native.Nat.{_+_, _-_, _≤_};
-ghost use Rattle.rules.specs.Basics.{between};
-ghost use Rattle.rules.specs.Series.{rootOf, allBytes, isPadded, isSpace, digits, goodRoot, goodDate, goodType, goodStrike, goodSymbol, onThirdFriday};
+ghost use Rattle.rules.specs.Basics.{all, between};
+ghost use Rattle.rules.specs.Series.{rootOf, isPadded, isSpace, digits, goodRoot, goodDate, goodType, goodStrike, goodSymbol, onThirdFriday};
 ghost use Rattle.rules.specs.Strategy.{sameBytes};
 ghost use Rattle.series.specs.Parts.{part};
 
@@ -17,7 +17,7 @@ fn within(low: u8, byte: u8, high: u8) -> bool
 // Whether all bytes of a part lie between two.
 fn all_within(symbol: [u8; 21], low: u8, high: u8, start: usize, end: usize) -> bool
     requires { ⌜ (start ≤ end) × (end ≤ 21) ⌝ }
-    ensures { λ r. ⌜ r ≡ allBytes (λ b. between low b high) (part symbol start end) ⌝ }
+    ensures { λ r. ⌜ r ≡ all (λ b. between low b high) (part symbol start end) ⌝ }
 {
     let mut at = start;
     while at < end {
@@ -31,7 +31,7 @@ fn all_within(symbol: [u8; 21], low: u8, high: u8, start: usize, end: usize) -> 
 
 // Where the root's capitals end: what is left of it must be spaces.
 fn capitals(symbol: [u8; 21]) -> usize
-    ensures { λ r. ⌜ (r ≤ 6) × (isPadded (rootOf symbol) ≡ allBytes isSpace (part symbol r 6)) ⌝ }
+    ensures { λ r. ⌜ (r ≤ 6) × (isPadded (rootOf symbol) ≡ all isSpace (part symbol r 6)) ⌝ }
 {
     let mut at: usize = 0;
     while at < 6 {

@@ -7,32 +7,33 @@ use native.Mathlib.Nat.{mod-lt}
 use native.Mathlib.Decide.{ℕ-discrete}
 use native.Mathlib.Omega.{arith}
 use borrow.Author.Tests.{eq-eqb, ne-eqb}
+use Rattle.rules.specs.Basics.{all}
 use Rattle.rules.specs.Series.{goodSymbol, onThirdFriday}
-use Rattle.rules.specs.Strategy.{Leg, allLegs, allPairs, euclid, gcd, gcdAll}
+use Rattle.rules.specs.Strategy.{Leg, allPairs, euclid, gcd, gcdAll}
 use Rattle.rules.proofs.TestLaws.{and-left, and-right}
 use Rattle.types.specs.View.{from}
 use Rattle.types.proofs.TableLaws.{from-cons, from-end}
 
 module _ (f : ℕ → Leg) (k n : ℕ) (t : Bool) where
-  pub all-cons : (p : Leg → Bool) → k < n → ((t && p (f k)) && allLegs p (from f (k + 1) n)) ≡ (t && allLegs p (from f k n))
-  all-cons p h = and-assoc t (p (f k)) (allLegs p (from f (k + 1) n)) ∙ ap (λ (ls : List Leg). t && allLegs p ls) (sym (from-cons f k n h))
+  pub all-cons : (p : Leg → Bool) → k < n → ((t && p (f k)) && all p (from f (k + 1) n)) ≡ (t && all p (from f k n))
+  all-cons p h = and-assoc t (p (f k)) (all p (from f (k + 1) n)) ∙ ap (λ (ls : List Leg). t && all p ls) (sym (from-cons f k n h))
 
-  pub all-end : (p : Leg → Bool) → n ≤ k → (t && allLegs p (from f k n)) ≡ t
-  all-end p h = ap (λ (ls : List Leg). t && allLegs p ls) (from-end f k n h) ∙ and-true t
+  pub all-end : (p : Leg → Bool) → n ≤ k → (t && all p (from f k n)) ≡ t
+  all-end p h = ap (λ (ls : List Leg). t && all p ls) (from-end f k n h) ∙ and-true t
 
-  pub pairs-cons : (q : Leg → Leg → Bool) → k < n → ((t && allLegs (q (f k)) (from f (k + 1) n)) && allPairs q (from f (k + 1) n)) ≡ (t && allPairs q (from f k n))
+  pub pairs-cons : (q : Leg → Leg → Bool) → k < n → ((t && all (q (f k)) (from f (k + 1) n)) && allPairs q (from f (k + 1) n)) ≡ (t && allPairs q (from f k n))
   pairs-cons q h =
-      and-assoc t (allLegs (q (f k)) (from f (k + 1) n)) (allPairs q (from f (k + 1) n)) ∙ ap (λ (ls : List Leg). t && allPairs q ls) (sym (from-cons f k n h))
+      and-assoc t (all (q (f k)) (from f (k + 1) n)) (allPairs q (from f (k + 1) n)) ∙ ap (λ (ls : List Leg). t && allPairs q ls) (sym (from-cons f k n h))
 
   pub pairs-end : (q : Leg → Leg → Bool) → n ≤ k → (t && allPairs q (from f k n)) ≡ t
   pairs-end q h = ap (λ (ls : List Leg). t && allPairs q ls) (from-end f k n h) ∙ and-true t
 
 -- where all symbols are good, a date is asked of every leg
-pub dates-asked : (ls : List Leg) → allLegs (λ l. goodSymbol (l .symbol)) ls ≡ true → allLegs (λ l. goodSymbol (l .symbol) && onThirdFriday (l .symbol)) ls ≡ allLegs (λ l. onThirdFriday (l .symbol)) ls
+pub dates-asked : (ls : List Leg) → all (λ l. goodSymbol (l .symbol)) ls ≡ true → all (λ l. goodSymbol (l .symbol) && onThirdFriday (l .symbol)) ls ≡ all (λ l. onThirdFriday (l .symbol)) ls
 dates-asked [] g = refl
 dates-asked (l ∷ ls) g =
-    let good : goodSymbol (l .symbol) ≡ true = and-left (goodSymbol (l .symbol)) (allLegs (λ k. goodSymbol (k .symbol)) ls) g in
-    rw (good, dates-asked ls (and-right (goodSymbol (l .symbol)) (allLegs (λ k. goodSymbol (k .symbol)) ls) g))
+    let good : goodSymbol (l .symbol) ≡ true = and-left (goodSymbol (l .symbol)) (all (λ k. goodSymbol (k .symbol)) ls) g in
+    rw (good, dates-asked ls (and-right (goodSymbol (l .symbol)) (all (λ k. goodSymbol (k .symbol)) ls) g))
 
 -- ---- the greatest common divisor
 

@@ -13,8 +13,8 @@ use types::State;
 use types::Strategy;
 ghost use mathlib.Core.Path.{_≡_};
 ghost use Prim.Native.Nat.{_+_, _≤_, _<_};
-ghost use Rattle.rules.specs.Basics.{between};
-ghost use Rattle.rules.specs.Strategy.{goodSide, goodMpv, allLegs, allPairs, nearRatio, gcd, gcdAll, goodRatios, goodSettings, openingRefusal};
+ghost use Rattle.rules.specs.Basics.{all, between};
+ghost use Rattle.rules.specs.Strategy.{goodSide, goodMpv, allPairs, nearRatio, gcd, gcdAll, goodRatios, goodSettings, openingRefusal};
 ghost use Rattle.types.specs.View.{legOf, legAt, settingsOf, openingOf, from};
 ghost use Rattle.strategy.specs.Opening.{keepsOf, holdsOf, noStrategy, emptyMarket, emptyBook, openedState, IsOpened};
 
@@ -70,7 +70,7 @@ fn keeps(leg: Leg, rule: LegRule) -> bool
 // Whether all legs keep it.
 fn all_keep(o: Strategy, rule: LegRule) -> bool
     requires { ⌜ o .count ≤ 4 ⌝ }
-    ensures { λ r. ⌜ r ≡ allLegs (keepsOf rule) (openingOf o .legs) ⌝ }
+    ensures { λ r. ⌜ r ≡ all (keepsOf rule) (openingOf o .legs) ⌝ }
 {
     let count = o.count;
     let mut all = true;
@@ -107,7 +107,7 @@ fn holds(a: Leg, b: Leg, rule: PairRule) -> bool
 // Whether it holds between a leg and all later ones.
 fn later_hold(o: Strategy, place: usize, rule: PairRule) -> bool
     requires { ⌜ (place < o .count) × (o .count ≤ 4) ⌝ }
-    ensures { λ r. ⌜ r ≡ allLegs (holdsOf rule (legAt o place)) (from (legAt o) (place + 1) (o .count)) ⌝ }
+    ensures { λ r. ⌜ r ≡ all (holdsOf rule (legAt o place)) (from (legAt o) (place + 1) (o .count)) ⌝ }
 {
     let count = o.count;
     let leg = o.legs[place];

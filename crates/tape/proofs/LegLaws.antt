@@ -9,7 +9,8 @@ use native.Mathlib.Omega.{arith}
 use borrow.Author.Tests.{ne-eqb}
 use lib.ListN.{length, getD, take, drop, set, length-take, List·getD-eq-default}
 use lib.Seq.{take-suc, take-suc-set}
-use Rattle.rules.specs.Series.{allBytes, isDigit, goodStrike, goodSymbol}
+use Rattle.rules.specs.Basics.{all}
+use Rattle.rules.specs.Series.{isDigit, goodStrike, goodSymbol}
 use Rattle.rules.specs.Tape.{legOf}
 use Rattle.types.specs.View.{upto}
 use Rattle.types.proofs.TableLaws.{from-end, from-last}
@@ -37,7 +38,7 @@ pub and-none : (b : Bool) → (b && false) ≡ false
 and-none true = refl
 and-none false = refl
 
-not-all : (f : ℕ → Bool) (s : List ℕ) (k : ℕ) → k < length s → f (getD s k 0) ≡ false → allBytes f s ≡ false
+not-all : (f : ℕ → Bool) (s : List ℕ) (k : ℕ) → k < length s → f (getD s k 0) ≡ false → all f s ≡ false
 not-all f [] k h e = absurd (omega arith)
 not-all f (b ∷ bs) zero h e = rw e
 not-all f (b ∷ bs) (suc k) h e = rw (not-all f bs k (omega arith) e) (and-none (f b))

@@ -9,9 +9,9 @@ use borrow.Author.Tests.{lt-leb}
 use lib.Dec.{leb}
 use lib.ListN.{length, take, drop}
 use lib.Seq.{drop-drop}
-use Rattle.rules.specs.Basics.{between}
+use Rattle.rules.specs.Basics.{between, all}
 use Rattle.rules.specs.Series.{goodSymbol}
-use Rattle.rules.specs.Strategy.{Leg, Settings, Strategy, allLegs, openingRefusal}
+use Rattle.rules.specs.Strategy.{Leg, Settings, Strategy, openingRefusal}
 use Rattle.rules.specs.Run.{refusedOpening, opening}
 use Rattle.rules.specs.Tape.{Header, headerOf, legBytes, legOf, legsFrom, strategyOf}
 use Rattle.rules.proofs.TestLaws.{and-left, and-right}
@@ -29,7 +29,7 @@ few-refused o e = rw e
 abbrev isWellFormed : Leg → Bool
 isWellFormed l = goodSymbol (l .symbol)
 
-malformed-refused : (o : Strategy) → between 2 (length (o .legs)) 4 ≡ true → allLegs isWellFormed (o .legs) ≡ false → opening o ≡ refusedOpening 2
+malformed-refused : (o : Strategy) → between 2 (length (o .legs)) 4 ≡ true → all isWellFormed (o .legs) ≡ false → opening o ≡ refusedOpening 2
 unfolding opening openingRefusal
 malformed-refused o e m = rw (e, m)
 
@@ -47,7 +47,7 @@ from-tape-length : (n : ℕ) (p : List ℕ) → length (legsFrom n p) ≡ n
 from-tape-length zero p = refl
 from-tape-length (suc n) p = ap suc (from-tape-length n (drop legBytes p))
 
-as-well-formed : (n : ℕ) (p : List ℕ) → allLegs isWellFormed (legsIn n p) ≡ allLegs isWellFormed (legsFrom n p)
+as-well-formed : (n : ℕ) (p : List ℕ) → all isWellFormed (legsIn n p) ≡ all isWellFormed (legsFrom n p)
 as-well-formed zero p = refl
 as-well-formed (suc n) p = rw (symbol-good p, as-well-formed n (drop legBytes p))
 
@@ -58,7 +58,7 @@ same-leg p e =
       | no h ↦ absurd (true≢false (sym e ∙ short-taken p (omega arith)))
     ]
 
-same-legs : (n : ℕ) (p : List ℕ) → allLegs isWellFormed (legsFrom n p) ≡ true → legsIn n p ≡ legsFrom n p
+same-legs : (n : ℕ) (p : List ℕ) → all isWellFormed (legsFrom n p) ≡ true → legsIn n p ≡ legsFrom n p
 same-legs zero p e = refl
 same-legs (suc n) p e =
     rw (same-leg p (and-left _ _ e), same-legs n (drop legBytes p) (and-right (goodSymbol (take 21 p)) _ e))
@@ -69,7 +69,7 @@ same-legs (suc n) p e =
 abbrev with : List Leg → Settings → Strategy
 with ls c = record { legs = ls; settings = c }
 
-same-opening : (n : ℕ) (p : List ℕ) (c : Settings) (few formed : Bool) → between 2 n 4 ≡ few → allLegs isWellFormed (legsFrom n p) ≡ formed
+same-opening : (n : ℕ) (p : List ℕ) (c : Settings) (few formed : Bool) → between 2 n 4 ≡ few → all isWellFormed (legsFrom n p) ≡ formed
     → opening (with (legsIn n p) c) ≡ opening (with (legsFrom n p) c)
 same-opening n p c few true e f = ap (λ (ls : List Leg). opening (with ls c)) (same-legs n p f)
 same-opening n p c false false e f =

@@ -160,7 +160,7 @@ entriesOf b = shownBy (entryAt b) (b .count)
 
 -- the auction
 abbrev pub auctionOf : Auction → T.Auction
-auctionOf a = pick (a .pending) (T.pending (record { buy = a .buy; deadline = a .deadline; start = derivedOf (a .start) })) T.none
+auctionOf a = pick (a .pending) (T.pending (record { buy = a .buy; deadline = a .deadline; start = derivedOf (a .start) ∷ [] })) T.none
 
 -- the clock
 abbrev pub clockOf : Clock → T.Clock
@@ -168,14 +168,7 @@ clockOf c = record { next = c .next; time = c .time }
 
 -- a state
 abbrev pub stateOf : State → T.State
-stateOf s =
-    record {
-      strategy = strategyOf (s .strategy);
-      market = marketOf (s .market) (legCount (s .strategy));
-      book = entriesOf (s .book);
-      auction = auctionOf (s .auction);
-      clock = clockOf (s .clock);
-    }
+stateOf s = T.stateFrom (strategyOf (s .strategy)) (marketOf (s .market) (legCount (s .strategy))) (entriesOf (s .book)) (auctionOf (s .auction)) (clockOf (s .clock))
 
 -- ---- messages
 

@@ -5,8 +5,7 @@ use native.Mathlib.Omega.{arith}
 use borrow.Author.Tests.{not-true, not-false}
 use borrow.Author.Needs.{needs}
 use lib.ListN.{length}
-use Rattle.rules.specs.Basics.{between}
-use Rattle.rules.specs.Series.{allBytes}
+use Rattle.rules.specs.Basics.{between, all}
 use Rattle.series.specs.Parts.{part}
 use Rattle.series.proofs.PartLaws.{all-go, all-stop, all-end}
 use Rattle.series.proofs.all_within.Statement.{statement}
@@ -14,7 +13,7 @@ use Rattle.series.proofs.all_within.Tie as tie
 
 abbrev Inv-loop : tie.InvT-loop
 Inv-loop low high start end symbol at₀ at =
-    (at ≤ end) × (end ≤ 21) × (allBytes (λ b. between low b high) (part symbol at end) ≡ allBytes (λ b. between low b high) (part symbol start end))
+    (at ≤ end) × (end ≤ 21) × (all (λ b. between low b high) (part symbol at end) ≡ all (λ b. between low b high) (part symbol start end))
 
 abbrev μ-loop : tie.MeasureT-loop
 μ-loop low high start end symbol at₀ at = end - at

@@ -4,7 +4,7 @@ use mathlib.Core.Bool.{_&&_}
 use Prim.Native.Nat.{_-_, _≤_}
 use native.Mathlib.Omega.{arith}
 use borrow.Author.Needs.{needs}
-use Rattle.rules.specs.Strategy.{allLegs}
+use Rattle.rules.specs.Basics.{all}
 use Rattle.types.specs.View.{legAt, from}
 use Rattle.strategy.specs.Opening.{keepsOf}
 use Rattle.strategy.proofs.LegLaws.{all-cons, all-end}
@@ -13,7 +13,7 @@ use Rattle.strategy.proofs.all_keep.Tie as tie
 
 abbrev Inv-loop : tie.InvT-loop
 Inv-loop rule o count all₀ at₀ all at =
-    (at ≤ count) × ((all && allLegs (keepsOf rule) (from (legAt o) at count)) ≡ allLegs (keepsOf rule) (from (legAt o) 0 count))
+    (at ≤ count) × ((all && all (keepsOf rule) (from (legAt o) at count)) ≡ all (keepsOf rule) (from (legAt o) 0 count))
 
 abbrev μ-loop : tie.MeasureT-loop
 μ-loop rule o count all₀ at₀ all at = count - at

@@ -4,7 +4,7 @@ use mathlib.Core.Bool.{_&&_}
 use Prim.Native.Nat.{_+_, _-_, _≤_}
 use native.Mathlib.Omega.{arith}
 use borrow.Author.Needs.{needs}
-use Rattle.rules.specs.Strategy.{allLegs}
+use Rattle.rules.specs.Basics.{all}
 use Rattle.types.specs.View.{legAt, from}
 use Rattle.strategy.specs.Opening.{holdsOf}
 use Rattle.strategy.proofs.LegLaws.{all-cons, all-end}
@@ -13,7 +13,7 @@ use Rattle.strategy.proofs.later_hold.Tie as tie
 
 abbrev Inv-loop : tie.InvT-loop
 Inv-loop place rule o count leg all₀ at₀ all at =
-    (at ≤ count) × ((all && allLegs (holdsOf rule (legAt o place)) (from (legAt o) at count)) ≡ allLegs (holdsOf rule (legAt o place)) (from (legAt o) (place + 1) count))
+    (at ≤ count) × ((all && all (holdsOf rule (legAt o place)) (from (legAt o) at count)) ≡ all (holdsOf rule (legAt o place)) (from (legAt o) (place + 1) count))
 
 abbrev μ-loop : tie.MeasureT-loop
 μ-loop place rule o count leg all₀ at₀ all at = count - at

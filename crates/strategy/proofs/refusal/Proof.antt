@@ -6,9 +6,9 @@ use Prim.Native.Nat.{ℕ, _≤_}
 use borrow.Author.Needs.{needs}
 use borrow.Author.Tests.{not-false}
 use lib.ListN.{length, drop}
-use Rattle.rules.specs.Basics.{between, Rule, firstOf}
+use Rattle.rules.specs.Basics.{between, Rule, firstOf, all}
 use Rattle.rules.specs.Series.{onThirdFriday}
-use Rattle.rules.specs.Strategy.{allLegs, allPairs, sameRoot, otherSymbol, openingRow, openingRefusal}
+use Rattle.rules.specs.Strategy.{allPairs, sameRoot, otherSymbol, openingRow, openingRefusal}
 use Rattle.rules.proofs.TestLaws.{between-high}
 use Rattle.types.specs.View.{openingOf}
 use Rattle.types.specs.declared.Strategy.{Strategy}
@@ -52,7 +52,7 @@ counted c = c .good-count .ensures ∙ ap (λ (n : ℕ). between 2 n 4) (sym (le
 few : (c : tie.Else1) → o-1 c .count ≤ 4
 few c = between-high 2 (o-1 c .count) 4 (sym (c .before .good-count .ensures) ∙ not-false _ (c .if1 .left))
 
-dates : (c : tie.After-all-keep2) → c .all-keep2 .result ≡ allLegs (λ l. onThirdFriday (l .symbol)) (openingOf (o-2 (c .before)) .legs)
+dates : (c : tie.After-all-keep2) → c .all-keep2 .result ≡ all (λ l. onThirdFriday (l .symbol)) (openingOf (o-2 (c .before)) .legs)
 dates c =
     c .all-keep2 .ensures ∙ dates-asked (openingOf (o-2 (c .before)) .legs) (sym (c .before .before .all-keep .ensures) ∙ not-false _ (c .before .if2 .left))
 
