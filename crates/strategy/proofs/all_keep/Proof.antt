@@ -12,11 +12,11 @@ use Rattle.strategy.proofs.all_keep.Statement.{statement}
 use Rattle.strategy.proofs.all_keep.Tie as tie
 
 abbrev Inv-loop : tie.InvT-loop
-Inv-loop rule o count all₀ at₀ all at =
-    (at ≤ count) × ((all && all (keepsOf rule) (from (legAt o) at count)) ≡ all (keepsOf rule) (from (legAt o) 0 count))
+Inv-loop rule o count so₀ at₀ so at =
+    (at ≤ count) × ((so && all (keepsOf rule) (from (legAt o) at count)) ≡ all (keepsOf rule) (from (legAt o) 0 count))
 
 abbrev μ-loop : tie.MeasureT-loop
-μ-loop rule o count all₀ at₀ all at = count - at
+μ-loop rule o count so₀ at₀ so at = count - at
 
 loop-holds : tie.Need-loop-holds Inv-loop μ-loop
 loop-holds c = (search needs, refl)

@@ -12,11 +12,11 @@ use Rattle.strategy.proofs.later_hold.Statement.{statement}
 use Rattle.strategy.proofs.later_hold.Tie as tie
 
 abbrev Inv-loop : tie.InvT-loop
-Inv-loop place rule o count leg all₀ at₀ all at =
-    (at ≤ count) × ((all && all (holdsOf rule (legAt o place)) (from (legAt o) at count)) ≡ all (holdsOf rule (legAt o place)) (from (legAt o) (place + 1) count))
+Inv-loop place rule o count leg so₀ at₀ so at =
+    (at ≤ count) × ((so && all (holdsOf rule (legAt o place)) (from (legAt o) at count)) ≡ all (holdsOf rule (legAt o place)) (from (legAt o) (place + 1) count))
 
 abbrev μ-loop : tie.MeasureT-loop
-μ-loop place rule o count leg all₀ at₀ all at = count - at
+μ-loop place rule o count leg so₀ at₀ so at = count - at
 
 mul-leg : tie.Need-mul-leg Inv-loop μ-loop
 mul-leg c = search needs
