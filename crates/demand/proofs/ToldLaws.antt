@@ -11,7 +11,7 @@ use Rattle.rules.specs.Turn as U
 use Rattle.rules.specs.Messages.{Body, local, national, order, response, modify, cancel, clock, Message}
 use Rattle.rules.specs.State.{State as Shown, taken}
 use Rattle.rules.specs.Refusals.{refusal}
-use Rattle.rules.specs.Step.{Act, goesOn, begins, joining, ends, takeIn, follow, answered, plain, recordsOf, accepted, turnedBack, step}
+use Rattle.rules.specs.Step.{Act, goesOn, begins, joining, ends, takeIn, follow, answered, plain, recordsOf, acted, accepted, turnedBack, step}
 use Rattle.rules.specs.Strategy.{openingRefusal}
 use Rattle.rules.specs.Run.{refusedOpening, started, startOf, opening, answers}
 use Rattle.rules.specs.Run.{Opened as Opened′}
@@ -45,7 +45,7 @@ answered-count b s joining = refl
 answered-count b s (ends c) = refl
 
 step-count : (s : Shown) (m : Message) (room : ℕ) → fillCount (step s m room .outcome) ≡ length (step s m room .fills)
-unfolding step accepted
+unfolding step accepted acted
 step-count s m room = by (eqb (refusal s m room) 0)
   where
     by : (x : Bool) → fillCount (pick x (accepted s m) (turnedBack s (refusal s m room)) .outcome) ≡ length (pick x (accepted s m) (turnedBack s (refusal s m room)) .fills)

@@ -17,7 +17,7 @@ use Rattle.rules.specs.Outcome.{byTime, byOrder, byLegs}
 use Rattle.rules.specs.Refusals.{leastRoom, everyRow, kindRow, refusal}
 use Rattle.rules.specs.Book.{Entry, isHeld, any, only}
 use Rattle.rules.specs.Execution.{legsPass, Reply, still, serve}
-use Rattle.rules.specs.Step.{Act, goesOn, begins, joining, ends, Intake, takeIn, liveOf, steps, ending, follow, outcomeOf, recordsOf, accepted, turnedBack, step}
+use Rattle.rules.specs.Step.{Act, goesOn, begins, joining, ends, Intake, takeIn, liveOf, steps, ending, follow, outcomeOf, recordsOf, acted, accepted, turnedBack, step}
 use Rattle.rules.proofs.RowLaws.{isNumbered, none-of}
 use Rattle.rules.proofs.BoundLaws.{records-fit}
 use Rattle.types.specs.View.{entryAt, stateOf, bodyOf, messageOf}
@@ -132,7 +132,7 @@ step-accepted s m room h = rw h refl
 
 -- the work of an accepted message
 pub starts-accepted : (s : Held) (m : Sent) (room : ℕ) (w : Work) → refusal (stateOf s) (messageOf m) room ≡ 0 → IsAccepted s m w → Starts s m room w
-unfolding accepted
+unfolding accepted acted
 starts-accepted s m room w h a =
     let q = accepted-is (stateOf s) (messageOf m) room h in
     let n : numbered (stateOf s) (m .time) ≡ taken (stateOf s) (m .time) = numbered-taken (stateOf s) (m .time) (q .1) (q .2) in

@@ -13,7 +13,7 @@ use Rattle.rules.specs.State.{State as Shown}
 use Rattle.rules.specs.Refusals.{leastRoom, refusal}
 use Rattle.rules.specs.Turn.{Fill}
 use Rattle.rules.specs.Execution.{Reply, still}
-use Rattle.rules.specs.Step.{Act, goesOn, begins, joining, ends, Intake, takeIn, follow, recordsOf, outcomeOf, accepted, step}
+use Rattle.rules.specs.Step.{Act, goesOn, begins, joining, ends, Intake, takeIn, follow, recordsOf, outcomeOf, acted, accepted, step}
 use Rattle.rules.specs.Tape.{tapeRefusal, strategyOf, messagesOf, tapeOf}
 use Rattle.rules.specs.Run.{opening}
 use Rattle.rules.specs.Print.{titleLine, fillLine, refusedLine, fillLines, refusedLines, linesFrom, openedLines, linesOf}
@@ -106,7 +106,7 @@ few-all q w₀ w g e h = let k = rw (e, g .records) at h in omega (arith, k)
 -- the bytes of an accepted message, and the state after it
 pub accepted-text : (k : ℕ) (s : State) (m : Message) → refusal (stateOf s) (messageOf m) leastRoom ≡ 0
     → (messageText k (stateOf s) (messageOf m) ≡ turnsText (setOff s m)) × (step (stateOf s) (messageOf m) leastRoom .state ≡ setOff s m .state) × (length (recordsOf (setOff s m .turns)) ≤ leastRoom)
-unfolding accepted
+unfolding accepted acted
 accepted-text k s m h =
     let q = accepted-is (stateOf s) (messageOf m) leastRoom h in
     let n = numbered-taken (stateOf s) (m .time) (q .1) (q .2) in
