@@ -11,6 +11,7 @@ pub mod RowLaws
 pub mod EntryLaws
 pub mod MarketLaws
 pub mod ExecuteCases
+pub mod LegsLaws
 pub mod ExecuteLaws
 pub mod SilentLaws
 pub mod ServeLaws
