@@ -10,7 +10,9 @@ pub mod RecordLaws
 pub mod RowLaws
 pub mod EntryLaws
 pub mod MarketLaws
+pub mod LessLaws
 pub mod ExecuteCases
+pub mod LegsLaws
 pub mod ExecuteLaws
 pub mod SilentLaws
 pub mod ServeLaws
