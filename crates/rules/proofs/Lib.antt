@@ -18,6 +18,7 @@ pub mod SilentLaws
 pub mod ServeLaws
 pub mod ClaimLaws
 pub mod IntakeLaws
+pub mod InitiatorLaws
 pub mod CrossLaws
 pub mod PassLaws
 pub mod RunLaws
