@@ -5,7 +5,7 @@ use mathlib.Core.Path.{_≡_, _∙_}
 use Prim.Native.Nat.{ℕ, _-_, _*_, _≤_, _<_}
 use native.Mathlib.Omega.{arith}
 use lib.ListN.{length}
-use Rattle.rules.specs.Prices.{usesAsk, lowerQuote, lower}
+use Rattle.rules.specs.Prices.{usesAsk, lowerQuote}
 use Rattle.types.specs.View.{legAt, quoteAt, quoteOf, legCount}
 use Rattle.market.proofs.LegLaws.{set-next, lower-from}
 use borrow.Author.Needs.{needs}
