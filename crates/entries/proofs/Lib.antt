@@ -1,2 +1,3 @@
 pub mod StageLaws
+pub mod StoreLaws
 pub mod ScanLaws
