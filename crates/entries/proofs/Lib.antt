@@ -1,3 +1,4 @@
 pub mod StageLaws
 pub mod StoreLaws
 pub mod ScanLaws
+mod PlaceLaws
