@@ -1,2 +1,4 @@
 pub mod StageLaws
+pub mod StoreLaws
 pub mod ScanLaws
+mod PlaceLaws

@@ -45,6 +45,14 @@ module _ (f : ℕ → Entry) (k n : ℕ) where
     pub units-end : n ≤ k → unitsIf p (from f k n) ≡ 0
     units-end h = ap (unitsIf p) (from-end f k n h)
 
+    pub only-step : k < n → pick (p (f k)) (f k ∷ only p (from f (k + 1) n)) (only p (from f (k + 1) n)) ≡ only p (from f k n)
+    unfolding only
+    only-step h = rw (from-cons f k n h)
+
+    pub only-end : n ≤ k → only p (from f k n) ≡ []
+    unfolding only
+    only-end h = rw (from-end f k n h)
+
 -- ---- whether one meets a condition
 
 -- what was seen so far, with what is left, is all
