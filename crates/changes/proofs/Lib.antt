@@ -1,0 +1,4 @@
+mod PassLaws
+mod BookLaws
+mod SettleLaws
+mod CloseLaws

@@ -1,0 +1,16 @@
+use mathlib.Core.Path.{refl}
+use Rattle.changes.proofs.CloseLaws.{stays}
+use borrow.Author.Needs.{needs}
+use Rattle.changes.proofs.released_stage.Statement.{statement}
+use Rattle.changes.proofs.released_stage.Tie as tie
+use Rattle.changes.proofs.released_stage.Reads as reads
+use Rattle.changes.proofs.released_stage.Lts as lts
+
+returns : tie.Need-returns
+returns c = rw (c .if1 .taken) refl
+
+returns-2 : tie.Need-returns-2
+returns-2 c = stays _ (c .if1 .left)
+
+pub released-stage-spec : {M : Type 1} → statement M
+released-stage-spec = tie.close (tie.spec returns returns-2)

@@ -1,0 +1,4 @@
+pub mod StageLaws
+pub mod StoreLaws
+pub mod ScanLaws
+mod PlaceLaws

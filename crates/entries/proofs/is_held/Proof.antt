@@ -1,0 +1,12 @@
+use Rattle.entries.proofs.StageLaws.{held-is}
+use borrow.Author.Needs.{needs}
+use Rattle.entries.proofs.is_held.Statement.{statement}
+use Rattle.entries.proofs.is_held.Tie as tie
+use Rattle.entries.proofs.is_held.Reads as reads
+use Rattle.entries.proofs.is_held.Lts as lts
+
+returns : tie.Need-returns
+returns c = held-is (c .args .stage)
+
+pub is-held-spec : {M : Type 1} → statement M
+is-held-spec = tie.close (tie.spec returns)

@@ -1,0 +1,21 @@
+use borrow.Author.Needs.{needs}
+use Rattle.entries.proofs.noted.Statement.{statement}
+use Rattle.entries.proofs.noted.Tie as tie
+use Rattle.entries.proofs.noted.Reads as reads
+use Rattle.entries.proofs.noted.Lts as lts
+use Rattle.entries.proofs.is_queued.Reads as is-queued-reads
+use Rattle.entries.proofs.is_response.Reads as is-response-reads
+
+is-response-requires : tie.Need-is-response-requires
+is-response-requires c κs = search needs
+
+is-queued-requires : tie.Need-is-queued-requires
+is-queued-requires c κs = search needs
+
+returns : tie.Need-returns
+returns c =
+    let r = c .before .before .before .before .is-response .ensures in
+    (rw r, rw (c .before .before .is-queued .ensures), rw r)
+
+pub noted-spec : {M : Type 1} → statement M
+noted-spec = tie.close (tie.spec is-response-requires is-queued-requires returns)

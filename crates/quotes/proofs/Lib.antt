@@ -1,0 +1,2 @@
+pub mod LegLaws
+pub mod QuoteLaws

@@ -1,0 +1,34 @@
+use mathlib.Core.Path.{ap₂, sym, _∙_}
+use Prim.Native.Nat.{_/_}
+use Rattle.rules.specs.Prices.{used}
+use Rattle.state.specs.View.{legAt, quoteAt}
+use Rattle.quotes.proofs.LegLaws.{no-ratio}
+use borrow.Author.Needs.{needs}
+use Rattle.quotes.proofs.units_shown.Statement.{statement}
+use Rattle.quotes.proofs.units_shown.Tie as tie
+use Rattle.quotes.proofs.units_shown.Reads as reads
+use Rattle.quotes.proofs.units_shown.Lts as lts
+use Rattle.quotes.proofs.size_used.Reads as size-used-reads
+use Rattle.state.proofs.ratio_at.Reads as ratio-at-reads
+
+size-used-requires : tie.Need-size-used-requires
+size-used-requires c κs = search needs
+
+ratio-at-requires : tie.Need-ratio-at-requires
+ratio-at-requires c κs = search needs
+
+div-result : tie.Need-div-result
+div-result c = search needs
+
+returns : tie.Need-returns
+returns c =
+    let a = c .before .before .before .before .args in
+    let w = a .words .now in
+    no-ratio (used (a .ask) (legAt w (a .k)) (quoteAt w (a .k)) .size) (legAt w (a .k) .ratio) (sym (c .before .ratio-at .ensures) ∙ c .if1 .taken)
+
+returns-2 : tie.Need-returns-2
+returns-2 c = ap₂ _/_ (c .before .before .size-used .ensures) (c .before .ratio-at .ensures)
+
+pub units-shown-spec : {M : Type 1} → statement M
+units-shown-spec =
+    tie.close (tie.spec size-used-requires ratio-at-requires div-result returns returns-2)

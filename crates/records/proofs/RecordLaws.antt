@@ -1,0 +1,120 @@
+-- Records behind records: none, one, and one list after another.
+use mathlib.Core.Path.{_≡_, refl, ap₂, sym, _∙_}
+use mathlib.Core.Bool.{false}
+use mathlib.Core.List.{List, [], _∷_, _++_}
+use Prim.Native.Nat.{ℕ, zero, suc, _+_, _-_, _*_, _≤_, _<_}
+use native.Mathlib.Omega.{arith}
+use borrow.Author.Tests.{ne-eqb}
+use lib.Dec.{eqb}
+use lib.ListN.{length, getD, set, length-set, length-append}
+use lib.Seq.{getD-set-same, getD-set-other}
+use Rattle.rules.specs.Turn.{entry, Fill}
+use Rattle.types.proofs.TableLaws.{from-cons, from-end}
+use Rattle.state.proofs.TableLaws.{from-same, from-join}
+use Rattle.records.specs.Records.{narrow, contraFrom, recordFrom, width, recordIn, Adds}
+
+-- ---- numbers stored one after another, from place b + k on
+
+abbrev pub run : List ℕ → ℕ → ℕ → List ℕ → List ℕ
+run l b k [] = l
+run l b k (x ∷ xs) = run (set l (b + k) x) b (k + 1) xs
+
+run-length : (l : List ℕ) (b k : ℕ) (xs : List ℕ) → length (run l b k xs) ≡ length l
+run-length l b k [] = refl
+run-length l b k (x ∷ xs) = run-length (set l (b + k) x) b (k + 1) xs ∙ length-set l (b + k) x
+
+run-before : (l : List ℕ) (b k : ℕ) (xs : List ℕ) (i : ℕ) → i < b + k → getD (run l b k xs) i 0 ≡ getD l i 0
+run-before l b k [] i h = refl
+run-before l b k (x ∷ xs) i h = run-before (set l (b + k) x) b (k + 1) xs i (omega arith) ∙ getD-set-other l (b + k) i x 0 (λ e. omega arith)
+
+run-behind : (l : List ℕ) (b k : ℕ) (xs : List ℕ) (i : ℕ) → b + k + length xs ≤ i → getD (run l b k xs) i 0 ≡ getD l i 0
+run-behind l b k [] i h = refl
+run-behind l b k (x ∷ xs) i h = run-behind (set l (b + k) x) b (k + 1) xs i (omega arith) ∙ getD-set-other l (b + k) i x 0 (λ e. omega arith)
+
+run-here : (l : List ℕ) (b k : ℕ) (xs : List ℕ) (j : ℕ) → j < length xs → b + k + length xs ≤ length l → getD (run l b k xs) (b + (k + j)) 0 ≡ getD xs j 0
+run-here l b k [] j h s = absurd (omega arith)
+run-here l b k (x ∷ xs) zero h s =
+    let at : k + 0 ≡ k = omega arith in
+    rw at (run-before (set l (b + k) x) b (k + 1) xs (b + k) (omega arith) ∙ getD-set-same l (b + k) x 0 (omega arith))
+run-here l b k (x ∷ xs) (suc j) h s =
+    let at : k + suc j ≡ k + 1 + j = omega arith in
+    rw at (run-here (set l (b + k) x) b (k + 1) xs j (omega arith) (simp length-set (omega arith)))
+
+-- the numbers of a record from place b on
+abbrev pub six : List ℕ → ℕ → ℕ → ℕ → ℕ → ℕ → ℕ → ℕ → List ℕ
+six l b n o r c p u = run (set l b n) b 1 (o ∷ r ∷ c ∷ p ∷ u ∷ [])
+
+-- ---- records
+
+pub adds-none : (l : List ℕ) (at : ℕ) → Adds l at l at []
+adds-none l at = record {
+  sized = refl;
+  more = omega arith;
+  inside = λ h. h;
+  before = λ i h. refl;
+  behind = λ i h. refl;
+  made = λ h. (omega arith, from-end (recordIn l) at at (omega arith));
+}
+
+-- where there is no room for one more
+pub adds-full : (l : List ℕ) (at : ℕ) (f : Fill) → length l < at * width + width → Adds l at l at (f ∷ [])
+adds-full l at f h = record {
+  sized = refl;
+  more = omega arith;
+  inside = λ q. q;
+  before = λ i q. refl;
+  behind = λ i q. refl;
+  made = λ q. absurd (omega arith);
+}
+
+-- one more
+pub adds-one : (l : List ℕ) (at n o r c p u : ℕ) → at * width + width ≤ length l → Adds l at (six l (at * width) n o r c p u) (at + 1) (recordFrom n o r c p u ∷ [])
+adds-one l at n o r c p u h =
+    let xs : List ℕ = o ∷ r ∷ c ∷ p ∷ u ∷ [] in
+    let b : ℕ = at * width in
+    let m : List ℕ = six l b n o r c p u in
+    let first : getD m b 0 ≡ n = run-before (set l b n) b 1 xs b (omega arith) ∙ getD-set-same l b n 0 (omega arith) in
+    let here : (j : ℕ) → j < 5 → getD m (b + (1 + j)) 0 ≡ getD xs j 0 = λ j q. run-here (set l b n) b 1 xs j q (simp length-set (omega arith)) in
+    let is : recordIn m at ≡ recordFrom n o r c p u =
+    λ i. recordFrom (first i) (here 0 (omega arith) i) (here 1 (omega arith) i) (here 2 (omega arith) i) (here 3 (omega arith) i) (here 4 (omega arith) i) in
+    record {
+      sized = run-length (set l b n) b 1 xs ∙ length-set l b n;
+      more = omega arith;
+      inside = λ q. omega arith;
+      before = λ i q. run-before (set l b n) b 1 xs i (omega arith) ∙ getD-set-other l b i n 0 (λ e. omega arith);
+      behind = λ i q. run-behind (set l b n) b 1 xs i (omega arith) ∙ getD-set-other l b i n 0 (λ e. omega arith);
+      made = λ q. (omega arith, from-cons (recordIn m) at (at + 1) (omega arith) ∙ ap₂ (λ (f : Fill) (fs : List Fill). f ∷ fs) is (from-end (recordIn m) (at + 1) (at + 1) (omega arith)));
+    }
+
+-- one list after another
+pub adds-then : (a b c : List ℕ) (at k r : ℕ) (fs gs : List Fill) → Adds a at b k fs → Adds b k c r gs → Adds a at c r (fs ++ gs)
+adds-then a b c at k r fs gs p q =
+    record {
+      sized = q .sized ∙ p .sized;
+      more = omega (arith, p .more, q .more);
+      inside = λ h. omega (arith, p .sized, q .inside (omega (arith, p .sized, p .inside h)));
+      before = λ i h. q .before i (omega (arith, p .more)) ∙ p .before i h;
+      behind = λ i h. q .behind i h ∙ p .behind i (omega (arith, q .more));
+      made = λ h.
+          let z : length (fs ++ gs) ≡ length fs + length gs = length-append fs gs in
+          let x = p .made (omega arith) in
+          let e : k ≡ at + length fs = x .0 in
+          let y = q .made (omega (arith, p .sized)) in
+          let f : r ≡ k + length gs = y .0 in (
+            omega arith,
+            sym (from-join (recordIn c) at k r (p .more) (q .more))
+                ∙ ap₂ (λ (f : List Fill) (g : List Fill). f ++ g) (from-same (recordIn c) (recordIn b) at k (λ j u v. same j v) ∙ x .1) (y .1),
+          );
+    }
+  where
+    same : (j : ℕ) → j < k → recordIn c j ≡ recordIn b j
+    same j v =
+        λ i. recordFrom (q .before (j * width) (omega arith) i) (q .before (j * width + 1) (omega arith) i) (q .before (j * width + 2) (omega arith) i) (q .before (j * width + 3) (omega arith) i) (q .before (j * width + 4) (omega arith) i) (q .before (j * width + 5) (omega arith) i)
+
+-- ---- the number of a contra
+
+pub contra-back : (id : ℕ) → id ≤ 4_294_967_295 → contraFrom (id + 1) ≡ entry id
+contra-back id h =
+    let z : eqb (id + 1) 0 ≡ false = ne-eqb (id + 1) 0 (λ e. omega arith) in
+    let w : narrow (id + 1 - 1) ≡ id = omega arith in
+    rw (z, w)

@@ -1,0 +1,23 @@
+use borrow.Author.Tests.{ne-eqb}
+use Rattle.records.proofs.rank_from.Statement.{statement}
+use Rattle.records.proofs.rank_from.Tie as tie
+use Rattle.records.proofs.rank_from.Reads as reads
+use Rattle.records.proofs.rank_from.Lts as lts
+
+returns : tie.Need-returns
+returns c = rw (c .if1 .taken)
+
+returns-2 : tie.Need-returns-2
+returns-2 c = rw (ne-eqb _ _ (c .before .if1 .left), c .if2 .taken)
+
+returns-3 : tie.Need-returns-3
+returns-3 c = rw (ne-eqb _ _ (c .before .before .if1 .left), ne-eqb _ _ (c .before .if2 .left), c .if3 .taken)
+
+returns-4 : tie.Need-returns-4
+returns-4 c = rw (ne-eqb _ _ (c .before .before .before .if1 .left), ne-eqb _ _ (c .before .before .if2 .left), ne-eqb _ _ (c .before .if3 .left), c .if4 .taken)
+
+returns-5 : tie.Need-returns-5
+returns-5 c = rw (ne-eqb _ _ (c .before .before .before .if1 .left), ne-eqb _ _ (c .before .before .if2 .left), ne-eqb _ _ (c .before .if3 .left), ne-eqb _ _ (c .if4 .left))
+
+pub rank-from-spec : {M : Type 1} → statement M
+rank-from-spec = tie.close (tie.spec returns returns-2 returns-3 returns-4 returns-5)

@@ -1,0 +1,4 @@
+pub mod TableLaws
+pub mod StoreLaws
+pub mod EntryLaws
+pub mod StateLaws
