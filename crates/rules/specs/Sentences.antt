@@ -4,7 +4,8 @@ use mathlib.Core.Bool.{true, false}
 use mathlib.Core.List.{List, [], _∷_, _++_, map}
 use Prim.Native.Nat.{ℕ, zero, suc, _+_, _/_, _%_}
 use lib.IntN.{ℤ, pos, negsuc}
-use lib.ListN.{replicate}
+use lib.ListN.{set, replicate}
+use Rattle.rules.specs.Series.{Symbol}
 use Rattle.rules.specs.Strategy.{Leg, Strategy, openingRefusal}
 use Rattle.rules.specs.Book.{count, isResponse}
 use Rattle.rules.specs.Messages.{Terms, Body, local, national, order, response, modify, cancel, clock, Message}
@@ -73,17 +74,40 @@ S = 83
 abbrev pub leg : ℕ → ℕ → ℕ → ℕ → ℕ → ℕ → Leg
 leg d p q side ratio mpv = record { symbol = symbolOf d p q; side = side; ratio = ratio; mpv = mpv }
 
--- legs in a class: distance, most legs, minimum, first number, opening time
-abbrev pub classed : List Leg → ℕ → ℕ → ℕ → ℕ → ℕ → Strategy
-classed ls distance most minimum first time =
+-- legs with the nine settings, in the header's order
+abbrev pub inClass : List Leg → ℕ → ℕ → ℕ → ℕ → ℕ → ℕ → ℕ → ℕ → ℕ → Strategy
+inClass ls interval distance most a1 a5 a10 minimum first time =
     record {
       legs = ls;
-      settings = record { interval = 500; distance = distance; mostLegs = most; amount1 = 10; amount5 = 15; amount10 = 30; minimum = minimum; firstNumber = first; openingTime = time };
+      settings =
+          record {
+            interval = interval;
+            distance = distance;
+            mostLegs = most;
+            amount1 = a1;
+            amount5 = a5;
+            amount10 = a10;
+            minimum = minimum;
+            firstNumber = first;
+            openingTime = time;
+          };
     }
+
+-- the same with the spread's interval and amounts: distance, most legs, minimum, first number, opening time
+abbrev pub classed : List Leg → ℕ → ℕ → ℕ → ℕ → ℕ → Strategy
+classed ls distance most minimum first time = inClass ls 500 distance most 10 15 30 minimum first time
 
 -- legs in the spread's class
 abbrev pub usual : List Leg → Strategy
 usual ls = classed ls 10 4 1 1 0
+
+-- the spread's first symbol
+abbrev pub c20 : Symbol
+c20 = symbolOf 6 2 0
+
+-- the spread with another first symbol
+abbrev pub series : Symbol → Strategy
+series s = usual (record { symbol = s; side = B; ratio = 1; mpv = 5 } ∷ leg 6 2 5 S 1 5 ∷ [])
 
 -- the spread, and C 30 B 1
 abbrev pub three : List Leg
@@ -203,27 +227,42 @@ ownCase =
 
 -- ---- the table
 
+-- "Strategy and series"
+abbrev pub seriesRows : List Row
+seriesRows =
+    -- "Symbol: root of 1 to 6 capitals padded with spaces to 6, yymmdd .., C or P, strike as 8 digits .., not zero"; "a month outside 01 to 12 included"
+    row 1 (openings (map series (set c20 0 32 ∷ set c20 1 32 ∷ set c20 0 64 ∷ set c20 0 91 ∷ set c20 5 65 ∷ set c20 6 47 ∷ set c20 6 58 ∷ set c20 9 48
+    ∷ set (set c20 8 49) 9 51 ∷ set c20 12 88 ∷ set c20 13 58 ∷ set c20 16 48
+    ∷ set (set c20 8 49) 9 50 ∷ set (set c20 10 48) 11 48 ∷ set c20 10 51 ∷ set c20 3 65 ∷ set c20 12 80 ∷ [])))
+    (numbers (replicate 12 2 ++ (3 ∷ 3 ∷ 3 ∷ 4 ∷ 0 ∷ [])))
+    -- "Ratios are 1 to 9. For any two legs neither ratio is above three times the other (002). The greatest common divisor of the ratios is 1"; an MPV "of 1, 5 or 10 cents"
+    ∷ row 2 (openings (pair 6 B 3 S 1 1 ∷ pair 6 B 4 S 1 5 ∷ pair 6 B 9 S 4 10 ∷ pair 6 B 10 S 7 5 ∷ pair 6 B 0 S 1 5
+    ∷ usual (leg 6 2 0 B 2 5 ∷ leg 6 2 5 S 4 5 ∷ leg 6 3 0 B 3 5 ∷ []) ∷ usual (leg 6 2 0 B 2 5 ∷ leg 6 2 5 S 4 5 ∷ leg 6 3 0 B 6 5 ∷ []) ∷ pair 6 B 1 S 1 2 ∷ []))
+    (numbers (0 ∷ 5 ∷ 0 ∷ 5 ∷ 5 ∷ 0 ∷ 5 ∷ 6 ∷ []))
+    ∷ []
+
 -- "Prices"
 abbrev pub priceRows : List Row
 priceRows =
     -- "A local derived price exists only where each leg side used shows at least ratio contracts": 1 of 2, then 2
-    row 1 (outcomesAfter (pair 6 B 1 S 2 5) (quote 0 220 10 240 10 ∷ quote 1 50 1 60 9 ∷ []) (wishes B 7 5 (pos 140) ∷ quote 1 50 2 60 9 ∷ []))
+    row 3 (outcomesAfter (pair 6 B 1 S 2 5) (quote 0 220 10 240 10 ∷ quote 1 50 1 60 9 ∷ []) (wishes B 7 5 (pos 140) ∷ quote 1 50 2 60 9 ∷ []))
     (outcomes (Placed 5 0 ∷ Noted 1 ∷ []))
     -- "Filling legs lowers those sizes by ratio × units": 6 contracts of 9
-    ∷ row 2 (outcomesAfter (pair 6 B 1 S 2 5) (quote 0 220 10 240 10 ∷ quote 1 50 9 60 9 ∷ []) (buyer 1 1 3 (pos 140) ∷ buyer 1 2 3 (pos 140) ∷ []))
+    ∷ row 4 (outcomesAfter (pair 6 B 1 S 2 5) (quote 0 220 10 240 10 ∷ quote 1 50 9 60 9 ∷ []) (buyer 1 1 3 (pos 140) ∷ buyer 1 2 3 (pos 140) ∷ []))
     (outcomes (Placed 0 1 ∷ Placed 2 1 ∷ []))
     -- "Net limits run from -40,000,000 to 40,000,000, zero included"
-    ∷ row 3 (outcomesAfter spread []
+    ∷ row 5 (outcomesAfter spread []
     (buyer 1 1 1 (negsuc 39_999_999) ∷ buyer 1 2 1 (negsuc 40_000_000) ∷ buyer 1 3 1 (pos 0) ∷ sells 1 4 1 (pos 40_000_000) ∷ sells 1 5 1 (pos 40_000_001) ∷ []))
     (outcomes (Placed 1 0 ∷ Refused 30 ∷ Placed 1 0 ∷ Placed 1 0 ∷ Refused 30 ∷ []))
-    -- filter, "only if every leg has a national bid and ask"
-    ∷ row 4 (outcomesAfter spread (nbbo 0 220 240 ∷ nbbo 1 110 0 ∷ []) (buyer 1 7 1 (pos 200) ∷ nbbo 1 110 125 ∷ buyer 1 8 1 (pos 200) ∷ []))
-    (outcomes (Placed 1 0 ∷ Noted 0 ∷ Refused 33 ∷ []))
+    -- filter, "only if every leg has a national bid and ask": no ask of leg 1, no bid of leg 0, all
+    ∷ row 6 (outcomesAfter spread (nbbo 0 1 240 ∷ nbbo 1 110 0 ∷ [])
+    (buyer 1 7 1 (pos 200) ∷ nbbo 0 0 240 ∷ nbbo 1 110 1 ∷ buyer 1 8 1 (pos 200) ∷ nbbo 0 1 240 ∷ buyer 1 9 1 (pos 200) ∷ []))
+    (outcomes (Placed 1 0 ∷ Noted 0 ∷ Noted 0 ∷ Placed 1 0 ∷ Noted 0 ∷ Refused 33 ∷ []))
     -- "the smallest, the earlier leg on a tie": 100 and 100, amounts 10 and 30
-    ∷ row 5 (outcomesAfter (usual (leg 6 2 0 B 1 1 ∷ leg 6 2 5 S 1 10 ∷ [])) (nbbo 0 90 100 ∷ nbbo 1 100 110 ∷ []) (buyer 1 7 1 (pos 11) ∷ buyer 1 8 1 (pos 10) ∷ []))
+    ∷ row 7 (outcomesAfter (usual (leg 6 2 0 B 1 1 ∷ leg 6 2 5 S 1 10 ∷ [])) (nbbo 0 90 100 ∷ nbbo 1 100 110 ∷ []) (buyer 1 7 1 (pos 11) ∷ buyer 1 8 1 (pos 10) ∷ []))
     (outcomes (Refused 33 ∷ Placed 1 0 ∷ []))
     -- "for orders alone": a seller, and a response that sells
-    ∷ row 6 (outcomesAfter spread (nationals ++ beganAgainst 5 5 (pos 130)) (sells 1 8 1 (pos 79) ∷ sells 1 8 1 (pos 80) ∷ asks 1 20 1 (pos 79) 0 ∷ []))
+    ∷ row 8 (outcomesAfter spread (nationals ++ beganAgainst 5 5 (pos 130)) (sells 1 8 1 (pos 79) ∷ sells 1 8 1 (pos 80) ∷ asks 1 20 1 (pos 79) 0 ∷ []))
     (outcomes (Refused 33 ∷ Placed 1 0 ∷ Noted 0 ∷ []))
     ∷ []
 
@@ -231,92 +270,92 @@ priceRows =
 abbrev pub lifeRows : List Row
 lifeRows =
     -- "Each accepted message takes the next arrival number": a refused one takes none, and moves no time
-    row 7 (answerAfter spread (market ++ (sent (cancel 9 1) 700 ∷ [])) (at 600 (buys 5 (pos 130)))) (told (Placed 0 1) (took 3 7 L legs 130 5 ∷ []) 0 0)
+    row 9 (answerAfter spread (market ++ (at 700 (cancels 9 1) ∷ [])) (at 600 (buys 5 (pos 130)))) (told (Placed 0 1) (took 3 7 L legs 130 5 ∷ []) 0 0)
     -- "Ids are free again once their entry is filled, cancelled or expired"
-    ∷ row 8 (outcomesAfter spread market
+    ∷ row 10 (outcomesAfter spread market
     (buyer 1 1 5 (pos 130) ∷ buyer 1 1 5 (pos 120) ∷ cancels 1 1 ∷ wishes B 1 5 (pos 122) ∷ asks 1 20 5 (pos 123) 0 ∷ atDeadline ∷ at 500 (sells 1 20 5 (pos 124)) ∷ []))
     (outcomes (Placed 0 1 ∷ Placed 5 0 ∷ Noted 0 ∷ Begun 500 ∷ Noted 0 ∷ Ended byTime 0 ∷ Placed 5 0 ∷ []))
     -- "held orders become live in arrival order, each executing first"
-    ∷ row 9 (answerAfter spread (began 5 (pos 120) ++ (sells 1 8 9 (pos 125) ∷ [])) (buyer 1 9 6 (pos 127))) (told (Ended byOrder 1) (took 5 9 R (entry 8) 125 6 ∷ []) 2 0)
+    ∷ row 11 (answerAfter spread (began 5 (pos 120) ++ (sells 1 8 9 (pos 125) ∷ [])) (buyer 1 9 6 (pos 127))) (told (Ended byOrder 1) (took 5 9 R (entry 8) 125 6 ∷ []) 2 0)
     -- "then live orders at or through the derived contra price": order 1, behind the held order 8
-    ∷ row 10 (answerAfter spread (market ++ (buyer 1 1 5 (pos 129) ∷ wishes B 7 2 (pos 130) ∷ buyer 1 8 5 (pos 129) ∷ quote 0 220 10 238 7 ∷ [])) atDeadline)
+    ∷ row 12 (answerAfter spread (market ++ (buyer 1 1 5 (pos 129) ∷ wishes B 7 2 (pos 130) ∷ buyer 1 8 5 (pos 129) ∷ quote 0 220 10 238 7 ∷ [])) atDeadline)
     (told (Ended byTime 2) (took 7 7 T legs 128 2 ∷ took 7 8 L legs 128 5 ∷ []) 1 0)
     -- "execute against the legs, .. best price first, then arrival"; "Noted (fill count)"
-    ∷ row 11 (answerAfter spread (buyer 1 1 5 (pos 128) ∷ buyer 1 2 5 (pos 130) ∷ buyer 1 3 5 (pos 130) ∷ quote 1 110 10 125 10 ∷ []) (quote 0 220 10 237 7))
+    ∷ row 13 (answerAfter spread (buyer 1 1 5 (pos 128) ∷ buyer 1 2 5 (pos 130) ∷ buyer 1 3 5 (pos 130) ∷ quote 1 110 10 125 10 ∷ []) (quote 0 220 10 237 7))
     (told (Noted 2) (took 5 2 L legs 127 5 ∷ took 5 3 L legs 127 2 ∷ []) 2 0)
     -- "best price first": the lowest seller
-    ∷ row 12 (answerAfter spread (sells 1 1 5 (pos 97) ∷ sells 1 2 5 (pos 95) ∷ sells 1 3 5 (pos 96) ∷ quote 1 110 10 125 10 ∷ []) (quote 0 223 7 240 10))
+    ∷ row 14 (answerAfter spread (sells 1 1 5 (pos 97) ∷ sells 1 2 5 (pos 95) ∷ sells 1 3 5 (pos 96) ∷ quote 1 110 10 125 10 ∷ []) (quote 0 223 7 240 10))
     (told (Noted 2) (took 5 2 L legs 98 5 ∷ took 5 3 L legs 98 2 ∷ []) 2 0)
     -- "An order may ask for an auction": order 8 does not ("Own case")
-    ∷ row 13 (answerAfter spread (quote 0 220 10 240 10 ∷ quote 1 110 10 120 10 ∷ buys 10 (pos 100) ∷ []) (sells 1 8 15 (pos 100)))
+    ∷ row 15 (answerAfter spread (quote 0 220 10 240 10 ∷ quote 1 110 10 120 10 ∷ buys 10 (pos 100) ∷ []) (sells 1 8 15 (pos 100)))
     (told (Placed 0 2) (took 4 8 L legs 100 10 ∷ took 4 8 R (entry 7) 100 5 ∷ []) 1 0)
     -- "its units reach the class minimum": 5
-    ∷ row 14 (outcomesAfter (classed (spread .legs) 10 4 5 1 0) market (wishes B 7 4 (pos 130) ∷ wishes B 8 5 (pos 130) ∷ [])) (outcomes (Placed 0 1 ∷ Begun 500 ∷ []))
+    ∷ row 16 (outcomesAfter (classed (spread .legs) 10 4 5 1 0) market (wishes B 7 4 (pos 130) ∷ wishes B 8 5 (pos 130) ∷ [])) (outcomes (Placed 0 1 ∷ Begun 500 ∷ []))
     -- "the strategy has at most the class's leg count": 3 of 2
-    ∷ row 15 (outcomesAfter (classed three 10 2 1 1 0) [] (beganAgainst 5 5 (pos 130))) (outcomes (Placed 5 0 ∷ Placed 0 1 ∷ []))
+    ∷ row 17 (outcomesAfter (classed three 10 2 1 1 0) [] (beganAgainst 5 5 (pos 130))) (outcomes (Placed 5 0 ∷ Placed 0 1 ∷ []))
     -- "at most": 3 of 3
-    ∷ row 16 (outcomesAfter (classed three 10 3 1 1 0) [] (beganAgainst 5 5 (pos 130))) (outcomes (Placed 5 0 ∷ Begun 500 ∷ []))
+    ∷ row 18 (outcomesAfter (classed three 10 3 1 1 0) [] (beganAgainst 5 5 (pos 130))) (outcomes (Placed 5 0 ∷ Begun 500 ∷ []))
     -- "its limit is strictly better than every other open same-side order outside the queue"
-    ∷ row 17 (outcomesAfter spread (market ++ (buyer 1 1 5 (pos 125) ∷ []))
+    ∷ row 19 (outcomesAfter spread (market ++ (buyer 1 1 5 (pos 125) ∷ []))
     (wishes B 7 5 (pos 125) ∷ wishes B 8 5 (pos 126) ∷ wishes B 9 5 (pos 126) ∷ buyer 1 10 5 (pos 126) ∷ wishes B 11 5 (pos 126) ∷ []))
     (outcomes (Placed 5 0 ∷ Begun 500 ∷ Joined 10 ∷ Placed 5 0 ∷ Placed 5 0 ∷ []))
     -- "a best contra price (derived, or live order)": no held order, no response
-    ∷ row 18 (outcomesAfter spread (beganAgainst 5 5 (pos 130) ++ (sells 1 2 5 (pos 130) ∷ asks 1 20 5 (pos 130) 0 ∷ []))
+    ∷ row 20 (outcomesAfter spread (beganAgainst 5 5 (pos 130) ++ (sells 1 2 5 (pos 130) ∷ asks 1 20 5 (pos 130) 0 ∷ []))
     (wishes B 8 5 (pos 129) ∷ cancels 1 1 ∷ wishes B 9 5 (pos 129) ∷ []))
     (outcomes (Joined 10 ∷ Noted 0 ∷ Placed 5 0 ∷ []))
     -- "exists": national quotes give none
-    ∷ row 19 (outcomesAfter spread nationals (wishes B 7 5 (pos 130) ∷ [])) (outcomes (Placed 5 0 ∷ []))
+    ∷ row 21 (outcomesAfter spread nationals (wishes B 7 5 (pos 130) ∷ [])) (outcomes (Placed 5 0 ∷ []))
     -- "that the limit reaches or misses by at most the class distance": 10 of 130
-    ∷ row 20 (outcomesAfter spread market (wishes B 7 5 (pos 119) ∷ wishes B 8 5 (pos 120) ∷ [])) (outcomes (Placed 5 0 ∷ Begun 500 ∷ []))
+    ∷ row 22 (outcomesAfter spread market (wishes B 7 5 (pos 119) ∷ wishes B 8 5 (pos 120) ∷ [])) (outcomes (Placed 5 0 ∷ Begun 500 ∷ []))
     -- "misses by at most the class distance": a seller, 10 of 95
-    ∷ row 21 (outcomesAfter spread market (wishes S 7 5 (pos 106) ∷ wishes S 8 5 (pos 105) ∷ [])) (outcomes (Placed 5 0 ∷ Begun 500 ∷ []))
+    ∷ row 23 (outcomesAfter spread market (wishes S 7 5 (pos 106) ∷ wishes S 8 5 (pos 105) ∷ [])) (outcomes (Placed 5 0 ∷ Begun 500 ∷ []))
     ∷ []
 
 -- "Order and auction life", in an auction and at its end
 abbrev pub auctionRows : List Row
 auctionRows =
     -- "begins one, ending at its time plus the interval"; "A clock message at or after the deadline ends it"
-    row 22 (outcomesAfter spread market (begin 5 (pos 130) ∷ sent clock 1_499 ∷ sent clock 1_500 ∷ [])) (outcomes (Begun 1_500 ∷ Noted 0 ∷ Ended byTime 1 ∷ []))
+    row 24 (outcomesAfter spread market (begin 5 (pos 130) ∷ sent clock 1_499 ∷ sent clock 1_500 ∷ [])) (outcomes (Begun 1_500 ∷ Noted 0 ∷ Ended byTime 1 ∷ []))
     -- "During an auction nothing else trades": order 1 with the legs or with order 8
-    ∷ row 23 (outcomesAfter spread (market ++ (buyer 1 1 5 (pos 129) ∷ wishes B 7 5 (pos 130) ∷ [])) (quote 0 220 10 234 10 ∷ sells 1 8 5 (pos 129) ∷ []))
+    ∷ row 25 (outcomesAfter spread (market ++ (buyer 1 1 5 (pos 129) ∷ wishes B 7 5 (pos 130) ∷ [])) (quote 0 220 10 234 10 ∷ sells 1 8 5 (pos 129) ∷ []))
     (outcomes (Noted 0 ∷ Placed 5 0 ∷ []))
     -- "Same side, better than the initiator's limit: the auction ends, that order held"
-    ∷ row 24 (answerAfter spread (beganAgainst 5 5 (pos 129)) (wishes B 8 5 (pos 130))) (told (Ended byOrder 1) (took 3 8 R (entry 1) 130 5 ∷ []) 1 0)
+    ∷ row 26 (answerAfter spread (beganAgainst 5 5 (pos 129)) (wishes B 8 5 (pos 130))) (told (Ended byOrder 1) (took 3 8 R (entry 1) 130 5 ∷ []) 1 0)
     -- "that order held": it asks and is eligible, and begins none
-    ∷ row 25 (outcomesAfter spread (beganAgainst 5 5 (pos 129)) (wishes B 8 5 (pos 130) ∷ asks 1 20 5 (pos 130) 0 ∷ [])) (outcomes (Ended byOrder 1 ∷ Refused 40 ∷ []))
+    ∷ row 27 (outcomesAfter spread (beganAgainst 5 5 (pos 129)) (wishes B 8 5 (pos 130) ∷ asks 1 20 5 (pos 130) 0 ∷ [])) (outcomes (Ended byOrder 1 ∷ Refused 40 ∷ []))
     -- "better than the initiator's limit": a lower one for sellers, asking or not
-    ∷ row 26 (outcomesAfter spread market (wishes S 7 5 (pos 96) ∷ sells 1 8 5 (pos 96) ∷ sells 1 9 5 (pos 95) ∷ []))
+    ∷ row 28 (outcomesAfter spread market (wishes S 7 5 (pos 96) ∷ sells 1 8 5 (pos 96) ∷ sells 1 9 5 (pos 95) ∷ []))
     (outcomes (Begun 500 ∷ Placed 5 0 ∷ Ended byOrder 1 ∷ []))
     -- "Same side, equal or worse, asking and eligible: it joins the queue"; "Joined (units in the queue)"
-    ∷ row 27 (outcomesAfter spread (began 5 (pos 130)) (wishes B 8 6 (pos 129) ∷ wishes B 9 4 (pos 130) ∷ [])) (outcomes (Joined 11 ∷ Joined 15 ∷ []))
+    ∷ row 29 (outcomesAfter spread (began 5 (pos 130)) (wishes B 8 6 (pos 129) ∷ wishes B 9 4 (pos 130) ∷ [])) (outcomes (Joined 11 ∷ Joined 15 ∷ []))
     -- "All others are held": one does not ask, one is not eligible, one is of the other side
-    ∷ row 28 (outcomesAfter spread (began 5 (pos 130)) (buyer 1 8 5 (pos 129) ∷ wishes B 9 5 (pos 119) ∷ wishes S 10 5 (pos 95) ∷ [])) (outcomes (replicate 3 (Placed 5 0)))
+    ∷ row 30 (outcomesAfter spread (began 5 (pos 130)) (buyer 1 8 5 (pos 129) ∷ wishes B 9 5 (pos 119) ∷ wishes S 10 5 (pos 95) ∷ [])) (outcomes (replicate 3 (Placed 5 0)))
     -- "same-side ones never trade"; "all responses expire"
-    ∷ row 29 (answerAfter spread (beganAgainst 2 9 (pos 130) ++ (bids 1 20 4 (pos 125) ∷ asks 2 21 3 (pos 129) 0 ∷ [])) atDeadline)
+    ∷ row 31 (answerAfter spread (beganAgainst 2 9 (pos 130) ++ (bids 1 20 4 (pos 125) ∷ asks 2 21 3 (pos 129) 0 ∷ [])) atDeadline)
     (told (Ended byTime 2) (took 5 7 N (entry 21) 129 3 ∷ took 5 7 C (entry 1) 130 2 ∷ []) 1 0)
     -- "A response may be modified in side, price and units, taking the new arrival number and keeping its account"
-    ∷ row 30 (answerAfter spread (beganAgainst 1 4 (pos 130)
+    ∷ row 32 (answerAfter spread (beganAgainst 1 4 (pos 130)
     ++ (bids 1 20 9 (pos 100) ∷ asks 1 21 3 (pos 128) 0 ∷ asks 2 22 5 (pos 129) 0 ∷ changes S 20 1 3 (pos 128) ∷ changes S 22 1 1 (pos 127) ∷ [])) atDeadline)
     (told (Ended byTime 3) (took 8 7 N (entry 22) 127 1 ∷ took 8 7 C (entry 21) 128 2 ∷ took 8 7 C (entry 20) 128 1 ∷ []) 1 0)
     -- "A local quote after which the derived price on the initiator's own side is strictly better than its limit ends the auction": not 125, nor a national bid of 180
-    ∷ row 31 (outcomesAfter spread (began 5 (pos 125) ++ (asks 1 20 3 (pos 125) 0 ∷ []))
+    ∷ row 33 (outcomesAfter spread (began 5 (pos 125) ++ (asks 1 20 3 (pos 125) 0 ∷ []))
     (quote 0 250 10 260 10 ∷ nbbo 0 300 310 ∷ nbbo 1 110 120 ∷ quote 0 251 10 261 10 ∷ []))
     (outcomes (Noted 0 ∷ Noted 0 ∷ Noted 0 ∷ Ended byLegs 1 ∷ []))
     -- "strictly better than its limit": for a seller 99, not 100
-    ∷ row 32 (outcomesAfter spread market (wishes S 7 5 (pos 100) ∷ quote 0 200 10 210 10 ∷ quote 0 199 10 209 10 ∷ [])) (outcomes (Begun 500 ∷ Noted 0 ∷ Ended byLegs 0 ∷ []))
+    ∷ row 34 (outcomesAfter spread market (wishes S 7 5 (pos 100) ∷ quote 0 200 10 210 10 ∷ quote 0 199 10 209 10 ∷ [])) (outcomes (Begun 500 ∷ Noted 0 ∷ Ended byLegs 0 ∷ []))
     -- "after which the derived price .. is strictly better": 95, as before the quote
-    ∷ row 33 (outcomesAfter (classed (spread .legs) 40 4 1 1 0) market (wishes B 7 5 (pos 94) ∷ nbbo 0 220 240 ∷ quote 0 220 10 240 10 ∷ []))
+    ∷ row 35 (outcomesAfter (classed (spread .legs) 40 4 1 1 0) market (wishes B 7 5 (pos 94) ∷ nbbo 0 220 240 ∷ quote 0 220 10 240 10 ∷ []))
     (outcomes (Begun 500 ∷ Noted 0 ∷ Ended byLegs 0 ∷ []))
     -- "the derived price on the initiator's own side": none without an ask of leg 1
-    ∷ row 34 (outcomesAfter spread (began 5 (pos 130)) (quote 1 110 10 0 0 ∷ [])) (outcomes (Noted 0 ∷ []))
+    ∷ row 36 (outcomesAfter spread (began 5 (pos 130)) (quote 1 110 10 0 0 ∷ [])) (outcomes (Noted 0 ∷ []))
     -- "At the end queue orders execute by price, then arrival"
-    ∷ row 35 (answerAfter spread (beganAgainst 12 5 (pos 133) ++ (wishes B 8 5 (pos 131) ∷ wishes B 9 5 (pos 132) ∷ wishes B 10 5 (pos 132) ∷ [])) atDeadline)
+    ∷ row 37 (answerAfter spread (beganAgainst 12 5 (pos 133) ++ (wishes B 8 5 (pos 131) ∷ wishes B 9 5 (pos 132) ∷ wishes B 10 5 (pos 132) ∷ [])) atDeadline)
     (told (Ended byTime 3) (took 6 7 C (entry 1) 130 5 ∷ took 6 9 C (entry 1) 130 5 ∷ took 6 10 C (entry 1) 130 2 ∷ []) 2 0)
     -- "by price": the lowest seller
-    ∷ row 36 (answerAfter spread (buyer 1 1 12 (pos 130) ∷ wishes S 7 5 (pos 126) ∷ wishes S 8 5 (pos 128) ∷ wishes S 9 5 (pos 127) ∷ []) atDeadline)
+    ∷ row 38 (answerAfter spread (buyer 1 1 12 (pos 130) ∷ wishes S 7 5 (pos 126) ∷ wishes S 8 5 (pos 128) ∷ wishes S 9 5 (pos 127) ∷ []) atDeadline)
     (told (Ended byTime 3) (took 5 7 C (entry 1) 130 5 ∷ took 5 9 C (entry 1) 130 5 ∷ took 5 8 C (entry 1) 130 2 ∷ []) 1 0)
     -- "remainders are held": order 7 keeps its arrival, before order 8
-    ∷ row 37 (answerAfter spread (beganAgainst 3 8 (pos 130) ++ (buyer 1 8 5 (pos 130) ∷ atDeadline ∷ [])) (at 500 (sells 1 9 6 (pos 130))))
+    ∷ row 39 (answerAfter spread (beganAgainst 3 8 (pos 130) ++ (buyer 1 8 5 (pos 130) ∷ atDeadline ∷ [])) (at 500 (sells 1 9 6 (pos 130))))
     (told (Placed 0 2) (took 5 9 R (entry 7) 130 5 ∷ took 5 9 R (entry 8) 130 1 ∷ []) 1 0)
     ∷ []
 
@@ -324,88 +363,96 @@ auctionRows =
 abbrev pub executionRows : List Row
 executionRows =
     -- "Open to a queue order: legs, live and held opposite orders, opposite responses"; "rank L, legs; C, customer orders and responses; N, non-customer ones"
-    row 38 (answerAfter spread (market ++ (sells 1 1 2 (pos 130) ∷ wishes B 7 20 (pos 130) ∷ sells 2 8 3 (pos 130) ∷ asks 1 20 4 (pos 130) 0 ∷ [])) atDeadline)
+    row 40 (answerAfter spread (market ++ (sells 1 1 2 (pos 130) ∷ wishes B 7 20 (pos 130) ∷ sells 2 8 3 (pos 130) ∷ asks 1 20 4 (pos 130) 0 ∷ [])) atDeadline)
     (told (Ended byTime 4) (took 7 7 L legs 130 10 ∷ took 7 7 C (entry 1) 130 2 ∷ took 7 7 C (entry 20) 130 4 ∷ took 7 7 N (entry 8) 130 3 ∷ []) 1 0)
     -- "Legs are late if their price is better, for the order, than the same derived price (bid or ask) when the auction began"
-    ∷ row 39 (answerAfter spread (began 30 (pos 130) ++ (asks 1 20 5 (pos 128) 0 ∷ asks 2 21 6 (pos 128) 0 ∷ quote 0 220 10 238 10 ∷ [])) atDeadline)
+    ∷ row 41 (answerAfter spread (began 30 (pos 130) ++ (asks 1 20 5 (pos 128) 0 ∷ asks 2 21 6 (pos 128) 0 ∷ quote 0 220 10 238 10 ∷ [])) atDeadline)
     (told (Ended byTime 3) (took 7 7 C (entry 20) 128 5 ∷ took 7 7 N (entry 21) 128 6 ∷ took 7 7 T legs 128 10 ∷ []) 1 0)
     -- "for the order": a seller; "Price by price, best first"
-    ∷ row 40 (answerAfter spread (market ++ (wishes S 7 30 (pos 95) ∷ bids 2 20 5 (pos 96) ∷ quote 0 222 10 240 10 ∷ [])) atDeadline)
+    ∷ row 42 (answerAfter spread (market ++ (wishes S 7 30 (pos 95) ∷ bids 2 20 5 (pos 96) ∷ quote 0 222 10 240 10 ∷ [])) atDeadline)
     (told (Ended byTime 2) (took 6 7 T legs 97 10 ∷ took 6 7 N (entry 20) 96 5 ∷ []) 1 0)
     -- "or none existed then"
-    ∷ row 41 (answerAfter spread (beganAgainst 5 30 (pos 130) ++ market) atDeadline) (told (Ended byTime 2) (took 5 7 C (entry 1) 130 5 ∷ took 5 7 T legs 130 10 ∷ []) 1 0)
+    ∷ row 43 (answerAfter spread (beganAgainst 5 30 (pos 130) ++ market) atDeadline) (told (Ended byTime 2) (took 5 7 C (entry 1) 130 5 ∷ took 5 7 T legs 130 10 ∷ []) 1 0)
     -- "else all their units are L": the same price, more units
-    ∷ row 42 (answerAfter spread (began 30 (pos 130) ++ (asks 1 20 5 (pos 130) 0 ∷ quote 0 220 10 240 15 ∷ quote 1 110 15 125 10 ∷ [])) atDeadline)
+    ∷ row 44 (answerAfter spread (began 30 (pos 130) ++ (asks 1 20 5 (pos 130) 0 ∷ quote 0 220 10 240 15 ∷ quote 1 110 15 125 10 ∷ [])) atDeadline)
     (told (Ended byTime 2) (took 7 7 L legs 130 15 ∷ took 7 7 C (entry 20) 130 5 ∷ []) 1 0)
     -- "else": a worse price
-    ∷ row 43 (answerAfter spread (began 30 (pos 132) ++ (asks 1 20 5 (pos 132) 0 ∷ quote 0 220 10 242 10 ∷ [])) atDeadline)
+    ∷ row 45 (answerAfter spread (began 30 (pos 132) ++ (asks 1 20 5 (pos 132) 0 ∷ quote 0 220 10 242 10 ∷ [])) atDeadline)
     (told (Ended byTime 2) (took 6 7 L legs 132 10 ∷ took 6 7 C (entry 20) 132 5 ∷ []) 1 0)
     -- "Outside an auction: L, then rank R, orders by arrival"
-    ∷ row 44 (answerAfter spread (buyer 2 1 3 (pos 128) ∷ buyer 1 2 9 (pos 128) ∷ []) (sells 1 3 5 (pos 128)))
+    ∷ row 46 (answerAfter spread (buyer 2 1 3 (pos 128) ∷ buyer 1 2 9 (pos 128) ∷ []) (sells 1 3 5 (pos 128)))
     (told (Placed 0 2) (took 3 3 R (entry 1) 128 3 ∷ took 3 3 R (entry 2) 128 2 ∷ []) 1 0)
     -- "Placed (units open, fill count)"
-    ∷ row 45 (answerAfter spread market (buys 15 (pos 130))) (told (Placed 5 1) (took 3 7 L legs 130 10 ∷ []) 1 0)
+    ∷ row 47 (answerAfter spread market (buys 15 (pos 130))) (told (Placed 5 1) (took 3 7 L legs 130 10 ∷ []) 1 0)
     ∷ []
 
 -- "Where a message is turned back"
 abbrev pub turnedBackRows : List Row
 turnedBackRows =
     -- "First that applies, reading down": number by number over all legs, two at once each time
-    row 46 (openings (usual (leg 6 2 50 B 1 5 ∷ []) ∷ usual (leg 7 2 0 B 1 5 ∷ leg 6 2 50 S 1 5 ∷ []) ∷ usual (leg 7 2 0 B 1 5 ∷ leg 7 2 0 S 1 5 ∷ [])
+    row 48 (openings (usual (leg 6 2 50 B 1 5 ∷ []) ∷ usual (leg 7 2 0 B 1 5 ∷ leg 6 2 50 S 1 5 ∷ []) ∷ usual (leg 7 2 0 B 1 5 ∷ leg 7 2 0 S 1 5 ∷ [])
     ∷ usual (leg 6 2 0 B 1 5 ∷ leg 6 2 0 S 4 5 ∷ []) ∷ pair 6 67 1 S 4 5 ∷ classed (leg 6 2 0 B 1 5 ∷ leg 6 2 5 S 1 7 ∷ []) 10 1 1 1 0 ∷ []))
     (numbers (1 ∷ 2 ∷ 3 ∷ 4 ∷ 5 ∷ 6 ∷ []))
     -- "7 a setting outside: .. distance 0 to 999, most legs 2 to 4, minimum 1 to 999,999, .. first number and time 0 to 10^15"
-    ∷ row 47 (openings (classed three 1_000 4 1 1 0 ∷ classed three 10 1 1 1 0 ∷ classed three 10 5 1 1 0 ∷ classed three 10 4 0 1 0 ∷ classed three 10 4 1_000_000 1 0
+    ∷ row 49 (openings (classed three 1_000 4 1 1 0 ∷ classed three 10 1 1 1 0 ∷ classed three 10 5 1 1 0 ∷ classed three 10 4 0 1 0 ∷ classed three 10 4 1_000_000 1 0
     ∷ classed three 10 4 1 1_000_000_000_000_001 0 ∷ classed three 10 4 1 1 1_000_000_000_000_001
     ∷ classed three 999 2 999_999 1_000_000_000_000_000 1_000_000_000_000_000 ∷ []))
     (numbers (7 ∷ 7 ∷ 7 ∷ 7 ∷ 7 ∷ 7 ∷ 7 ∷ 0 ∷ []))
+    -- "interval 1 to 1,000, .. amounts 0 to 999"
+    ∷ row 50 (openings (inClass three 0 10 4 10 15 30 1 1 0 ∷ inClass three 1_001 10 4 10 15 30 1 1 0 ∷ inClass three 1 10 4 1_000 15 30 1 1 0
+    ∷ inClass three 1 10 4 10 1_000 30 1 1 0 ∷ inClass three 1 10 4 10 15 1_000 1 1 0 ∷ inClass three 1 0 4 999 999 999 1 0 0 ∷ inClass three 1_000 0 4 0 0 0 1 0 0 ∷ []))
+    (numbers (7 ∷ 7 ∷ 7 ∷ 7 ∷ 7 ∷ 0 ∷ 0 ∷ []))
     -- "10 fill list under 2,000 places; 11 time above 10^15 ..; 12 next number above 10^15; 13 deadline reached and not a clock": all at once, then fewer
-    ∷ row 48 (outcomesAfter (classed (spread .legs) 10 4 1 999_999_999_999_998 0) (market ++ (begin 5 (pos 130) ∷ []))
-    (record { message = record { time = 1_000_000_000_000_001; body = cancel 9 1 }; room = 1_999 } ∷ sent (cancel 9 1) 1_000_000_000_000_001 ∷ sent (cancel 9 1) 1_500 ∷ []))
+    ∷ row 51 (outcomesAfter (classed (spread .legs) 10 4 1 999_999_999_999_998 0) (market ++ (begin 5 (pos 130) ∷ []))
+    (record { message = record { time = 1_000_000_000_000_001; body = cancel 9 1 }; room = 1_999 } ∷ at 1_000_000_000_000_001 (cancels 9 1) ∷ at 1_500 (cancels 9 1) ∷ []))
     (outcomes (Refused 10 ∷ Refused 11 ∷ Refused 12 ∷ []))
-    -- "11 .. before the last accepted time ..; 13 ..": both before 50
-    ∷ row 49 (outcomesAfter spread (market ++ (begin 5 (pos 130) ∷ [])) (sent (cancel 9 1) 999 ∷ sent (cancel 9 1) 1_500 ∷ sent (cancel 9 1) 1_499 ∷ []))
-    (outcomes (Refused 11 ∷ Refused 13 ∷ Refused 50 ∷ []))
+    -- "11 .. before the last accepted time ..; 13 deadline reached and not a clock": before 20 to 50
+    ∷ row 52 (outcomesAfter spread (market ++ (begin 5 (pos 130) ∷ [])) (at 999 (cancels 9 1) ∷ at 1_499 (cancels 9 1)
+    ∷ map (at 1_500) (quote 2 1 1 2 1 ∷ nbbo 2 1 2 ∷ buys 0 (pos 1) ∷ asks 0 20 1 (pos 1) 0 ∷ changes S 20 1 1 (pos 1) ∷ cancels 9 1 ∷ [])))
+    (outcomes (Refused 11 ∷ Refused 50 ∷ replicate 6 (Refused 13)))
     -- "11 time above 10^15 or before the last accepted time (at first the opening's)"; a first number of 10^15 is taken once
-    ∷ row 50 (outcomesAfter (classed (spread .legs) 10 4 1 1_000_000_000_000_000 5) []
+    ∷ row 53 (outcomesAfter (classed (spread .legs) 10 4 1 1_000_000_000_000_000 5) []
     (sent clock 4 ∷ sent clock 1_000_000_000_000_001 ∷ sent clock 1_000_000_000_000_000 ∷ sent clock 1_000_000_000_000_000 ∷ []))
     (outcomes (Refused 11 ∷ Refused 11 ∷ Noted 0 ∷ Refused 12 ∷ []))
     -- "20 no such leg; 21 price or size; 22 both local sides, bid not below ask": all at once, then fewer; one side alone
-    ∷ row 51 (outcomesAfter spread [] (quote 2 5 0 4 1 ∷ quote 0 5 0 4 1 ∷ quote 0 5 1 5 1 ∷ quote 0 5 1 0 0 ∷ []))
+    ∷ row 54 (outcomesAfter spread [] (quote 2 5 0 4 1 ∷ quote 0 5 0 4 1 ∷ quote 0 1 1 1 1 ∷ quote 0 5 1 0 0 ∷ []))
     (outcomes (Refused 20 ∷ Refused 21 ∷ Refused 22 ∷ Noted 0 ∷ []))
     -- "Local sides are price 1 to 999,999 with size 1 to 999,999"
-    ∷ row 52 (outcomesAfter spread [] (quote 0 1 1 999_999 999_999 ∷ quote 0 1 1 1_000_000 1 ∷ quote 0 1 1 2 1_000_000 ∷ []))
-    (outcomes (Noted 0 ∷ Refused 21 ∷ Refused 21 ∷ []))
+    ∷ row 55 (outcomesAfter spread []
+    (quote 0 1 1 999_999 999_999 ∷ quote 0 1 1 1_000_000 1 ∷ quote 0 1 1 2 1_000_000
+    ∷ sent (local (record { leg = 0; bidSize = 1; bid = negsuc 0; ask = pos 1; askSize = 1 })) 0 ∷ []))
+    (outcomes (Noted 0 ∷ replicate 3 (Refused 21)))
     -- "National sides are prices 1 to 999,999 alone, 0 for absent, and may lock or cross"
-    ∷ row 53 (outcomesAfter spread [] (nbbo 2 1_000_000 1 ∷ nbbo 0 1_000_000 1 ∷ nbbo 0 999_999 0 ∷ nbbo 0 6 5 ∷ []))
-    (outcomes (Refused 20 ∷ Refused 21 ∷ Noted 0 ∷ Noted 0 ∷ []))
-    -- "30 side, account, limit, or id or participant 0, or units not 1 to 999,999" (the limit in row 3)
-    ∷ row 54 (outcomesAfter spread []
+    ∷ row 56 (outcomesAfter spread []
+    (nbbo 2 1_000_000 1 ∷ nbbo 0 1_000_000 1 ∷ sent (national (record { leg = 0; bid = pos 1; ask = negsuc 0 })) 0 ∷ nbbo 0 999_999 0 ∷ nbbo 0 6 5 ∷ []))
+    (outcomes (Refused 20 ∷ Refused 21 ∷ Refused 21 ∷ Noted 0 ∷ Noted 0 ∷ []))
+    -- "30 side, account, limit, or id or participant 0, or units not 1 to 999,999" (the limit in row 5)
+    ∷ row 57 (outcomesAfter spread []
     (noWish (terms 67 1 7 1 (pos 1)) ∷ buyer 0 7 1 (pos 1) ∷ buyer 3 7 1 (pos 1) ∷ buyer 1 0 1 (pos 1) ∷ buyer 1 7 0 (pos 1) ∷ buyer 1 7 1_000_000 (pos 1)
     ∷ noWish (record { side = B; account = 1; id = 7; participant = 0; units = 1; price = pos 1 }) ∷ buyer 2 7 999_999 (pos 1) ∷ []))
     (outcomes (replicate 7 (Refused 30) ++ (Placed 999_999 0 ∷ [])))
     -- "32 32 orders open": the 32nd passes
-    ∷ row 55 (outcomesAfter spread (waiting 31) (buyer 1 40 1 (pos 1) ∷ buyer 1 41 1 (pos 1) ∷ cancels 40 1 ∷ buyer 1 41 1 (pos 1) ∷ []))
+    ∷ row 58 (outcomesAfter spread (waiting 31) (buyer 1 40 1 (pos 1) ∷ buyer 1 41 1 (pos 1) ∷ cancels 40 1 ∷ buyer 1 41 1 (pos 1) ∷ []))
     (outcomes (Placed 1 0 ∷ Refused 32 ∷ Noted 0 ∷ Placed 1 0 ∷ []))
     -- "30 ..; 31 id open as order or response; 32 ..; 33 filter": all at once, then fewer
-    ∷ row 56 (outcomesAfter spread (nationals ++ waiting 32)
+    ∷ row 59 (outcomesAfter spread (nationals ++ waiting 32)
     (buyer 3 1 1 (pos 200) ∷ buyer 1 1 1 (pos 200) ∷ buyer 1 40 1 (pos 200) ∷ cancels 1 1 ∷ buyer 1 40 1 (pos 200) ∷ []))
     (outcomes (Refused 30 ∷ Refused 31 ∷ Refused 32 ∷ Noted 0 ∷ Refused 33 ∷ []))
     -- "43 new: 32 open": the 32nd passes, and a modification; orders are not counted
-    ∷ row 57 (outcomesAfter spread (beganAgainst 5 5 (pos 130) ++ answering 31)
+    ∷ row 60 (outcomesAfter spread (beganAgainst 5 5 (pos 130) ++ answering 31)
     (asks 1 20 1 (pos 200) 0 ∷ asks 1 21 1 (pos 200) 0 ∷ changes S 20 1 2 (pos 201) ∷ buyer 1 8 5 (pos 129) ∷ buyer 1 20 5 (pos 129) ∷ []))
     (outcomes (Noted 0 ∷ Refused 43 ∷ Noted 0 ∷ Placed 5 0 ∷ Refused 31 ∷ []))
     -- "40 no auction; 41 as 30, over the fields used; 42 new: id open ..": all at once
-    ∷ row 58 (outcomesAfter spread (sells 1 1 5 (pos 130) ∷ []) (asks 3 1 1 (pos 200) 0 ∷ changes 67 1 1 1 (pos 200) ∷ [])) (outcomes (Refused 40 ∷ Refused 40 ∷ []))
+    ∷ row 61 (outcomesAfter spread (sells 1 1 5 (pos 130) ∷ []) (asks 3 1 1 (pos 200) 0 ∷ changes 67 1 1 1 (pos 200) ∷ [])) (outcomes (Refused 40 ∷ Refused 40 ∷ []))
     -- "41 ..; 42 ..; 43 ..": all at once, then fewer
-    ∷ row 59 (outcomesAfter spread (beganAgainst 5 5 (pos 130) ++ answering 32) (asks 3 1 1 (pos 200) 0 ∷ asks 1 1 1 (pos 200) 0 ∷ asks 1 20 1 (pos 200) 0 ∷ []))
+    ∷ row 62 (outcomesAfter spread (beganAgainst 5 5 (pos 130) ++ answering 32) (asks 3 1 1 (pos 200) 0 ∷ asks 1 1 1 (pos 200) 0 ∷ asks 1 20 1 (pos 200) 0 ∷ []))
     (outcomes (Refused 41 ∷ Refused 42 ∷ Refused 43 ∷ []))
     -- "42 .. modify: no response of that id and participant": 41 before it, another participant, an order
-    ∷ row 60 (outcomesAfter spread (beganAgainst 5 5 (pos 130) ++ (asks 1 20 1 (pos 200) 0 ∷ []))
+    ∷ row 63 (outcomesAfter spread (beganAgainst 5 5 (pos 130) ++ (asks 1 20 1 (pos 200) 0 ∷ []))
     (changes 67 20 2 1 (pos 200) ∷ changes S 20 2 1 (pos 200) ∷ changes S 1 1 1 (pos 200) ∷ changes S 20 1 1 (pos 200) ∷ []))
     (outcomes (Refused 41 ∷ Refused 42 ∷ Refused 42 ∷ Noted 0 ∷ []))
     -- "50 no open order of that id and participant; 51 in the queue": a response, another participant twice, the queue, a live order
-    ∷ row 61 (outcomesAfter spread (beganAgainst 5 5 (pos 130) ++ (asks 1 20 1 (pos 200) 0 ∷ [])) (cancels 20 1 ∷ cancels 7 2 ∷ cancels 1 2 ∷ cancels 7 1 ∷ cancels 1 1 ∷ []))
+    ∷ row 64 (outcomesAfter spread (beganAgainst 5 5 (pos 130) ++ (asks 1 20 1 (pos 200) 0 ∷ [])) (cancels 20 1 ∷ cancels 7 2 ∷ cancels 1 2 ∷ cancels 7 1 ∷ cancels 1 1 ∷ []))
     (outcomes (Refused 50 ∷ Refused 50 ∷ Refused 50 ∷ Refused 51 ∷ Noted 0 ∷ []))
     ∷ []
 
@@ -413,28 +460,29 @@ turnedBackRows =
 abbrev pub tapeRows : List Row
 tapeRows =
     -- "60 tape under 40 .. bytes, or a section that is not empty overlapping the header or the other section, or running past the end"; the last three pass
-    row 62 (tapes (replicate 39 0 ∷ (header 2 39 0 0 ++ packedLegs) ∷ (header 2 41 0 0 ++ packedLegs) ∷ (header 2 40 1 87 ++ packedLegs ++ blank 7) ∷ (header 0 0 1 41 ++ blank 7)
+    row 65 (tapes (replicate 39 0 ∷ (header 2 39 0 0 ++ packedLegs) ∷ (header 2 41 0 0 ++ packedLegs) ∷ (header 2 40 1 87 ++ packedLegs ++ blank 7) ∷ (header 0 0 1 41 ++ blank 7)
     ∷ header 0 41 0 0 ∷ (header 2 40 1 88 ++ packedLegs ++ blank 7) ∷ (header 2 76 1 40 ++ blank 7 ++ packedLegs) ∷ []))
     (numbers (60 ∷ 60 ∷ 60 ∷ 60 ∷ 60 ∷ 0 ∷ 0 ∷ 0 ∷ []))
     -- "61 any message's kind not below": the last message's; 60 before it
-    ∷ row 63 (tapes ((header 0 0 3 40 ++ blank 7 ++ blank 8) ∷ (header 0 0 2 40 ++ blank 7 ++ blank 8)
+    ∷ row 66 (tapes ((header 0 0 3 40 ++ blank 7 ++ blank 8) ∷ (header 0 0 2 40 ++ blank 7 ++ blank 8)
     ∷ (header 0 0 2 40 ++ blank 7 ++ blank 0) ∷ (header 0 0 2 40 ++ blank 7 ++ blank 1) ∷ []))
     (numbers (60 ∷ 61 ∷ 61 ∷ 0 ∷ []))
     -- "both over the whole tape, before the opening and all above": no legs
-    ∷ row 64 (printOf (header 0 0 2 40 ++ blank 7 ++ blank 8)) (lines (refusedLine 0 61 ∷ []))
+    ∷ row 67 (printOf (header 0 0 2 40 ++ blank 7 ++ blank 8)) (lines (refusedLine 0 61 ∷ []))
     -- "before the opening": 1 where the kinds are good
-    ∷ row 65 (printOf (header 0 0 2 40 ++ blank 7 ++ blank 1)) (lines (refusedLine 0 1 ∷ []))
+    ∷ row 68 (printOf (header 0 0 2 40 ++ blank 7 ++ blank 1)) (lines (refusedLine 0 1 ∷ []))
     -- "A table of seven rows says which fields each kind uses"
-    ∷ row 66 (readingOf (header 2 40 7 88 ++ packedLegs ++ full 1 ++ full 2 ++ full 3 ++ full 4 ++ full 5 ++ full 6 ++ full 7))
-    (reading (reads spread (map timed (local (record { leg = 3; bidSize = 7; bid = negsuc 7; ask = pos 9; askSize = 10 }) ∷ national (record { leg = 3; bid = negsuc 7; ask = pos 9 })
-    ∷ order fullTerms true ∷ response fullTerms ∷ modify (record { side = B; id = 5; participant = 6; units = 7; price = negsuc 7 }) ∷ cancel 5 6 ∷ clock ∷ []))))
+    ∷ row 69 (readingOf (header 2 40 7 88 ++ packedLegs ++ full 1 ++ full 2 ++ full 3 ++ full 4 ++ full 5 ++ full 6 ++ full 7))
+    (reading (reads spread (map timed (local (record { leg = 3; bidSize = 7; bid = negsuc 7; ask = pos 9; askSize = 10 })
+    ∷ national (record { leg = 3; bid = negsuc 7; ask = pos 9 }) ∷ order fullTerms true ∷ response fullTerms
+    ∷ modify (record { side = B; id = 5; participant = 6; units = 7; price = negsuc 7 }) ∷ cancel 5 6 ∷ clock ∷ []))))
     -- "Own case"
-    ∷ row 67 (printOf ownCase) (lines (titleLine ∷ fillLine (took 4 8 L legs 100 10) ∷ fillLine (took 4 8 R (entry 7) 100 5) ∷ refusedLine 5 50 ∷ lastLine 1 0 ∷ []))
+    ∷ row 70 (printOf ownCase) (lines (titleLine ∷ fillLine (took 4 8 L legs 100 10) ∷ fillLine (took 4 8 R (entry 7) 100 5) ∷ refusedLine 5 50 ∷ lastLine 1 0 ∷ []))
     ∷ []
 
 -- the table
 abbrev pub sentences : List Row
-sentences = priceRows ++ lifeRows ++ auctionRows ++ executionRows ++ turnedBackRows ++ tapeRows
+sentences = seriesRows ++ priceRows ++ lifeRows ++ auctionRows ++ executionRows ++ turnedBackRows ++ tapeRows
 
 -- the rules answer as it says
 unfoldable pub SentencesHold : Type 0
