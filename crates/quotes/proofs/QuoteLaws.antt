@@ -35,11 +35,11 @@ rising-past a b i [] h r = tt
 rising-past a b i (s ∷ ss) h r = (λ e. omega (arith, r .0), rising-past (suc (s .at)) b i ss (omega (arith, r .0)) (r .2))
 
 -- all of them are read back
-rising-read : (l : List ℕ) (a b : ℕ) (ss : List Store) → length l ≡ b → Rising a b ss → All (λ s. getD (stores l ss) (s .at) 0 ≡ s .number) ss
+rising-read : (l : List ℕ) (a b : ℕ) (ss : List Store) → b ≤ length l → Rising a b ss → All (λ s. getD (stores l ss) (s .at) 0 ≡ s .number) ss
 rising-read l a b [] z r = tt
 rising-read l a b (s ∷ ss) z r = (
   stores-here l s ss (omega (arith, r .1)) (rising-past (suc (s .at)) b (s .at) ss (omega arith) (r .2)),
-  rising-read (set l (s .at) (s .number)) (suc (s .at)) b ss (length-set l (s .at) (s .number) ∙ z) (r .2),
+  rising-read (set l (s .at) (s .number)) (suc (s .at)) b ss (simp length-set z) (r .2),
 )
 
 -- the words of a quote, where they are stored
@@ -61,7 +61,7 @@ module _ (w : List ℕ) (k : ℕ) (q : Held) where
 
   stored-here : WordsSized w → k < 4 → quoteAt (stores w (quoteStores k q)) k ≡ quoteOf q
   stored-here z h =
-      let e = rising-read w L.bids 580 (quoteStores k q) z
+      let e = rising-read w L.bids L.sides (quoteStores k q) (omega arith)
       (omega arith, omega arith, (omega arith, omega arith, (omega arith, omega arith, (omega arith, omega arith, (omega arith, omega arith, (omega arith, omega arith, tt)))))) in
       λ i. record {
         bid = record { price = e .0 i; size = e .1 .0 i };
@@ -90,11 +90,9 @@ module _ (w : List ℕ) (k : ℕ) (q : Held) where
 
 -- ---- the state with other quotes
 
-module _ (l m : List ℕ) (keep : Kept L.bids L.sides l m) where
-  market-is : (qs : List Quote) → from (quoteAt m) 0 (legCount l) ≡ qs → (longs : List ℕ) → stateOf longs m ≡ withMarket (stateOf longs l) qs
-  market-is qs e longs =
-      market-alone longs l m keep
-      ∙ ap (withMarket (stateOf longs l)) (ap (λ (x : ℕ). from (quoteAt m) 0 (min x 4)) (keep .above L.legCounts (omega arith)) ∙ e)
+market-is : (l m : List ℕ) → Kept L.bids L.sides l m → (qs : List Quote) → from (quoteAt m) 0 (legCount l) ≡ qs → (longs : List ℕ) → stateOf longs m ≡ withMarket (stateOf longs l) qs
+market-is l m keep qs e longs =
+    market-alone longs l m keep ∙ ap (withMarket (stateOf longs l)) (ap (λ (x : ℕ). from (quoteAt m) 0 (min x 4)) (keep .above L.legCounts (omega arith)) ∙ e)
 
 -- one changed
 from-changed : (g r : ℕ → Quote) (n : ℕ) (f : Quote → Quote) (d j k : ℕ) → n - j ≡ d → (j + k < n → r (j + k) ≡ f (g (j + k))) → ((i : ℕ) → j ≤ i → i < n → (i ≡ j + k → ⊥) → r i ≡ g i) → from r j n ≡ changed f k (from g j n)

@@ -1,16 +1,15 @@
 // Leg quotes in the words of a state: derived bid and ask with their units, the filter, what a fill takes from the legs, quotes taken in.
 ghost use mathlib.Core.Path.{_≡_};
-ghost use Prim.Native.Nat.{_*_, _≤_, _<_};
+ghost use Prim.Native.Nat.{_-_, _*_, _≤_, _<_};
 ghost use Rattle.rules.specs.Strategy.{isB, mostRatio};
-ghost use Rattle.rules.specs.Prices.{usesAsk, used, net as netOf, unitsShown, least as leastOf, derived as derivedRule, lowerQuote, lower as lowerOf};
+ghost use Rattle.rules.specs.Prices.{usesAsk, used, net, unitsShown, least, derived as derivedRule, lowerQuote, lower as lowerOf};
 ghost use Rattle.rules.specs.Filter.{allNational, legPrice, smaller as smallerOf, smallest as smallestRule, amountFor, smallestRatio as smallestRatioOf, beyond as beyondOf, filtered as filteredOf};
 ghost use Rattle.rules.specs.State.{withMarket};
 ghost use Rattle.rules.specs.Step.{localQuote, nationalQuote, localIn, nationalIn};
 ghost use Rattle.types.specs.View.{quoteOf, derivedOf, localOf, nationalOf};
 ghost use Rattle.state.specs.Layout.{WordsSized};
-ghost use Rattle.state.specs.View.{legAt, quoteAt};
 ghost use Rattle.state.specs.Lent.{Tells, WordsBecome};
-ghost use Rattle.quotes.specs.Uses.{priceUsed, legPriceOf, mostCost, mostDerived, Costs};
+ghost use Rattle.quotes.specs.Uses.{OfLeg, priceUsed, legPriceOf, mostCost, mostDerived, IsPart};
 ghost use Rattle.quotes.specs.Requoted.{Requoted};
 use state::Legs;
 use state::Market;
@@ -27,7 +26,7 @@ use types::Quote;
 // Whether a leg's side is B.
 fn is_b(words: &[u32], k: usize) -> bool
     requires { ⌜ WordsSized (now words) × (k < 4) ⌝ }
-    ensures { λ r. ⌜ r ≡ isB (legAt (now (words .entry)) k .side) ⌝ }
+    ensures { λ r. ⌜ OfLeg words k (λ l q. r ≡ isB (l .side)) ⌝ }
 {
     words[Legs::SIDES + k] == Leg::B as u32
 }
@@ -35,7 +34,7 @@ fn is_b(words: &[u32], k: usize) -> bool
 // "The derived ask uses asks of B legs and bids of S legs; the derived bid the opposite sides".
 fn uses_ask(words: &[u32], ask: bool, k: usize) -> bool
     requires { ⌜ WordsSized (now words) × (k < 4) ⌝ }
-    ensures { λ r. ⌜ r ≡ usesAsk ask (legAt (now (words .entry)) k) ⌝ }
+    ensures { λ r. ⌜ OfLeg words k (λ l q. r ≡ usesAsk ask l) ⌝ }
 {
     let b = is_b(words, k);
     if ask { b } else { !b }
@@ -44,7 +43,7 @@ fn uses_ask(words: &[u32], ask: bool, k: usize) -> bool
 // The price that a derived price uses, national or local.
 fn price_used(words: &[u32], national: bool, ask: bool, k: usize) -> u32
     requires { ⌜ WordsSized (now words) × (k < 4) ⌝ }
-    ensures { λ r. ⌜ r ≡ priceUsed national ask (legAt (now (words .entry)) k) (quoteAt (now (words .entry)) k) ⌝ }
+    ensures { λ r. ⌜ OfLeg words k (λ l q. r ≡ priceUsed national ask l q) ⌝ }
 {
     if uses_ask(words, ask, k) {
         if national {
@@ -64,7 +63,7 @@ fn price_used(words: &[u32], national: bool, ask: bool, k: usize) -> u32
 // The size that a derived price uses.
 fn size_used(words: &[u32], ask: bool, k: usize) -> u32
     requires { ⌜ WordsSized (now words) × (k < 4) ⌝ }
-    ensures { λ r. ⌜ r ≡ used ask (legAt (now (words .entry)) k) (quoteAt (now (words .entry)) k) .size ⌝ }
+    ensures { λ r. ⌜ OfLeg words k (λ l q. r ≡ used ask l q .size) ⌝ }
 {
     if uses_ask(words, ask, k) {
         words[Market::ASK_SIZES + k]
@@ -73,32 +72,17 @@ fn size_used(words: &[u32], ask: bool, k: usize) -> u32
     }
 }
 
-// "size divided by ratio, rounded down"; a ratio of 0 shows none.
+// "size divided by ratio, rounded down"; a ratio of 0 shows none, and one of 1 needs no division.
 fn units_shown(words: &[u32], ask: bool, k: usize) -> u32
     requires { ⌜ WordsSized (now words) × (k < 4) ⌝ }
-    ensures { λ r. ⌜ r ≡ unitsShown ask (legAt (now (words .entry)) k) (quoteAt (now (words .entry)) k) ⌝ }
+    ensures { λ r. ⌜ OfLeg words k (λ l q. r ≡ unitsShown ask l q) ⌝ }
 {
     let size = size_used(words, ask, k);
     let ratio = state::ratio_at(words, k);
+    if ratio == 1 {
+        return size;
+    }
     if ratio == 0 { 0 } else { size / ratio }
-}
-
-// "its units are the least of size divided by ratio, rounded down".
-fn least(words: &[u32], ask: bool) -> u32
-    requires { ⌜ WordsSized (now words) ⌝ }
-    ensures { λ r. ⌜ Tells words (λ s. r ≡ leastOf ask (s .strategy .legs) (s .market)) ⌝ }
-{
-    let n = state::leg_count(words);
-    if n == 0 {
-        return 0;
-    }
-    let mut t = units_shown(words, ask, 0);
-    let mut k = 1;
-    while k < n {
-        t = number::lesser(t, units_shown(words, ask, k));
-        k += 1;
-    }
-    t
 }
 
 // A ratio times a number.
@@ -109,49 +93,72 @@ fn times(ratio: u32, n: u32) -> u64
     number::wide(ratio) * number::wide(n)
 }
 
-// What a leg costs in buying, or brings.
-struct Cost {
+// A leg's part in a derived price: its cost among the B legs, or among the S legs, and the units that it shows.
+struct Part {
     pub bought: u64,
     pub sold: u64,
+    pub units: u32,
 }
 
-fn leg_cost(words: &[u32], national: bool, ask: bool, k: usize) -> Cost
+fn leg_part(words: &[u32], national: bool, ask: bool, k: usize) -> Part
     requires { ⌜ WordsSized (now words) × (k < 4) ⌝ }
-    ensures { λ r. ⌜ Costs (priceUsed national ask) (legAt (now (words .entry)) k) (quoteAt (now (words .entry)) k) r ⌝ }
+    ensures { λ r. ⌜ OfLeg words k (λ l q. IsPart national ask l q r) ⌝ }
 {
     let cost = times(
         state::ratio_at(words, k),
         price_used(words, national, ask, k),
     );
+    let units = units_shown(words, ask, k);
     if is_b(words, k) {
-        Cost {
+        Part {
             bought: cost,
             sold: 0,
+            units: units,
         }
     } else {
-        Cost {
+        Part {
             bought: 0,
             sold: cost,
+            units: units,
         }
     }
 }
 
-// "Buying a unit costs the sum of ratio × price over B legs less the same over S legs", as held.
-fn net(words: &[u32], national: bool, ask: bool) -> u64
+// A sum less another, not below 0.
+fn less(a: u64, b: u64) -> u64
+    ensures { λ r. ⌜ r ≡ a - b ⌝ }
+{
+    if b <= a { a - b } else { 0 }
+}
+
+// What a unit costs at national or at local prices, as held: "the sum of ratio × price over B legs less the same over S legs"; "its units are the least of size divided by ratio, rounded down".
+fn priced(words: &[u32], national: bool, ask: bool) -> Derived
     requires { ⌜ WordsSized (now words) ⌝ }
-    ensures { λ r. ⌜ Tells words (λ s. r ≡ netOf (priceUsed national ask) (s .strategy .legs) (s .market)) × (r ≤ mostDerived) ⌝ }
+    ensures { λ r. ⌜ Tells words (λ s. (r .price ≡ net (priceUsed national ask) (s .strategy .legs) (s .market)) × (r .units ≡ least ask (s .strategy .legs) (s .market))) × (r .price ≤ mostDerived) ⌝ }
 {
     let n = state::leg_count(words);
     let mut bought = Entry::MOST_CENTS as u64;
+    if n == 0 {
+        return Derived {
+            price: bought,
+            units: 0,
+        };
+    }
     let mut sold: u64 = 0;
+    // A word is no greater, so no leg shows more.
+    let mut units: u32 = 4_294_967_295;
     let mut k = 0;
     while k < n {
-        let c = leg_cost(words, national, ask, k);
-        bought += c.bought;
-        sold += c.sold;
+        let p = leg_part(words, national, ask, k);
+        bought += p.bought;
+        sold += p.sold;
+        units = number::lesser(units, p.units);
         k += 1;
     }
-    if sold <= bought { bought - sold } else { 0 }
+    Derived {
+        price: less(bought, sold),
+        units: units,
+    }
 }
 
 // The derived ask, or the derived bid, with its units.
@@ -159,12 +166,7 @@ pub fn derived(words: &[u32], ask: bool) -> Derived
     requires { ⌜ WordsSized (now words) ⌝ }
     ensures { λ r. ⌜ Tells words (λ s. derivedOf r ≡ derivedRule ask (s .strategy .legs) (s .market)) × (r .price ≤ mostDerived) ⌝ }
 {
-    let price = net(words, false, ask);
-    let units = least(words, ask);
-    Derived {
-        price: price,
-        units: units,
-    }
+    priced(words, false, ask)
 }
 
 // ---- the filter
@@ -188,7 +190,7 @@ fn all_national(words: &[u32]) -> bool
     true
 }
 
-// A leg's price and its MPV.
+// A leg's national price that a contra price uses, and its MPV.
 struct LegPrice {
     pub price: u32,
     pub mpv: u32,
@@ -196,7 +198,7 @@ struct LegPrice {
 
 fn price_of(words: &[u32], ask: bool, k: usize) -> LegPrice
     requires { ⌜ WordsSized (now words) × (k < 4) ⌝ }
-    ensures { λ r. ⌜ legPriceOf r ≡ legPrice ask (legAt (now (words .entry)) k) (quoteAt (now (words .entry)) k) ⌝ }
+    ensures { λ r. ⌜ OfLeg words k (λ l q. legPriceOf r ≡ legPrice ask l q) ⌝ }
 {
     LegPrice {
         price: price_used(words, true, ask, k),
@@ -278,13 +280,14 @@ pub fn filtered(words: &[u32], buy: bool, limit: u32) -> bool
     requires { ⌜ WordsSized (now words) ⌝ }
     ensures { λ r. ⌜ Tells words (λ s. r ≡ filteredOf (s .strategy) (s .market) buy limit) ⌝ }
 {
-    if !all_national(words) {
-        return false;
+    if all_national(words) {
+        let contra = priced(words, true, buy);
+        let amount = amount_for(words, smallest(words, buy));
+        let most = times(smallest_ratio(words), amount);
+        beyond(buy, most, number::wide(limit), contra.price)
+    } else {
+        false
     }
-    let contra = net(words, true, buy);
-    let amount = amount_for(words, smallest(words, buy));
-    let most = times(smallest_ratio(words), amount);
-    beyond(buy, most, number::wide(limit), contra)
 }
 
 // ---- quotes changed
@@ -292,7 +295,7 @@ pub fn filtered(words: &[u32], buy: bool, limit: u32) -> bool
 // The quote of a leg.
 fn quote_at(words: &[u32], k: usize) -> Quote
     requires { ⌜ WordsSized (now words) × (k < 4) ⌝ }
-    ensures { λ r. ⌜ quoteOf r ≡ quoteAt (now (words .entry)) k ⌝ }
+    ensures { λ r. ⌜ OfLeg words k (λ l q. quoteOf r ≡ q) ⌝ }
 {
     Quote {
         bid: words[Market::BIDS + k],
@@ -340,10 +343,10 @@ fn lower_quote(ask: bool, n: u64, q: Quote) -> Quote
     r
 }
 
-// What so many units take of a leg.
+// A leg's quote less what so many units take of it.
 fn lower_leg(words: &mut [u32], ask: bool, units: u32, k: usize)
     requires { ⌜ WordsSized (now words) × (k < 4) ⌝ }
-    ensures { λ _. ⌜ Requoted k (lowerQuote (usesAsk ask (legAt (now (words .entry)) k)) (legAt (now (words .entry)) k .ratio * units) (quoteAt (now (words .entry)) k)) (now (words .entry)) (now (words .exit)) ⌝ }
+    ensures { λ _. ⌜ OfLeg words k (λ l q. Requoted k (lowerQuote (usesAsk ask l) (l .ratio * units) q) (now (words .entry)) (now (words .exit))) ⌝ }
 {
     let side = uses_ask(words, ask, k);
     let n = times(state::ratio_at(words, k), units);
@@ -402,7 +405,7 @@ pub fn put_local(words: &mut [u32], q: Local)
     }
 }
 
-// A national quote taken in, likewise.
+// The same for a national one.
 pub fn put_national(words: &mut [u32], q: National)
     requires { ⌜ WordsSized (now words) ⌝ }
     ensures { λ _. ⌜ WordsBecome words (λ s. nationalIn s (nationalOf q)) ⌝ }

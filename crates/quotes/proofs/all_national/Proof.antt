@@ -1,6 +1,7 @@
 use mathlib.Core.Path.{_≡_, refl, sym, _∙_}
+use mathlib.Core.Bool.{Bool}
 use mathlib.Core.List.{List}
-use Prim.Native.Nat.{ℕ, _+_, _-_, _≤_}
+use Prim.Native.Nat.{_+_, _-_, _≤_}
 use native.Mathlib.Omega.{arith}
 use Rattle.rules.specs.Strategy.{Leg}
 use Rattle.rules.specs.Prices.{Quote}
@@ -13,6 +14,9 @@ use Rattle.quotes.proofs.all_national.Tie as tie
 use Rattle.quotes.proofs.all_national.Reads as reads
 use Rattle.quotes.proofs.all_national.Lts as lts
 use Rattle.state.proofs.leg_count.Reads as leg-count-reads
+
+abbrev ofQuotes : List Leg → List Quote → Bool
+ofQuotes ls qs = allNational qs
 
 abbrev Inv-loop : tie.InvT-loop
 Inv-loop words n k₀ k = (k ≤ n) × (n ≡ legCount words) × (allNational (quotesFrom words k) ≡ allNational (marketOf words))
@@ -40,7 +44,7 @@ returns c longs =
     let L = c .before .before .before in
     let w = L .before .before .before .args .words .now in
     let k = L .loop .k in
-    no-bid (quoteAt w k) (quotesFrom w (k + 1)) (c .if1 .taken) ∙ sym (next-leg (λ (ls : List Leg) (qs : List Quote). allNational qs) w k (omega arith)) ∙ L .loop .inv .2
+    no-bid (quoteAt w k) (quotesFrom w (k + 1)) (c .if1 .taken) ∙ sym (next-leg ofQuotes w k (omega arith)) ∙ L .loop .inv .2
 
 add-if2 : tie.Need-add-if2 Inv-loop μ-loop
 add-if2 c = search needs
@@ -56,7 +60,7 @@ returns-2 c longs =
     let L = c .before .before .before .before .before in
     let w = L .before .before .before .args .words .now in
     let k = L .loop .k in
-    no-ask (quoteAt w k) (quotesFrom w (k + 1)) (c .if2 .taken) ∙ sym (next-leg (λ (ls : List Leg) (qs : List Quote). allNational qs) w k (omega arith)) ∙ L .loop .inv .2
+    no-ask (quoteAt w k) (quotesFrom w (k + 1)) (c .if2 .taken) ∙ sym (next-leg ofQuotes w k (omega arith)) ∙ L .loop .inv .2
 
 add-k : tie.Need-add-k Inv-loop μ-loop
 add-k c = search needs
@@ -68,16 +72,11 @@ loop-again : tie.Need-loop-again Inv-loop μ-loop
 loop-again c =
     let L = c .before .before .before .before .before in
     let w = L .before .before .before .args .words .now in
-    let k = L .loop .k in (
-      omega arith,
-      L .loop .inv .1,
-      both-sides (quoteAt w k) (quotesFrom w (k + 1)) (c .before .before .if1 .left) (c .if2 .left) ∙ sym (next-leg (λ (ls : List Leg) (qs : List Quote). allNational qs) w k (omega arith)) ∙ L .loop .inv .2,
-    )
+    let k = L .loop .k in
+    (omega arith, L .loop .inv .1, both-sides (quoteAt w k) (quotesFrom w (k + 1)) (c .before .before .if1 .left) (c .if2 .left) ∙ sym (next-leg ofQuotes w k (omega arith)) ∙ L .loop .inv .2)
 
 returns-3 : tie.Need-returns-3 Inv-loop μ-loop
-returns-3 c longs =
-    let L = c .before in
-    sym (no-leg (λ (ls : List Leg) (qs : List Quote). allNational qs) (L .before .before .before .args .words .now) (L .loop .k) (omega arith)) ∙ L .loop .inv .2
+returns-3 c longs = let L = c .before in sym (no-leg ofQuotes (L .before .before .before .args .words .now) (L .loop .k) (omega arith)) ∙ L .loop .inv .2
 
 pub all-national-spec : {M : Type 1} → statement M
 all-national-spec =

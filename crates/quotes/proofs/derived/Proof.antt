@@ -4,18 +4,14 @@ use Rattle.quotes.proofs.derived.Statement.{statement}
 use Rattle.quotes.proofs.derived.Tie as tie
 use Rattle.quotes.proofs.derived.Reads as reads
 use Rattle.quotes.proofs.derived.Lts as lts
-use Rattle.quotes.proofs.least.Reads as least-reads
-use Rattle.quotes.proofs.net.Reads as net-reads
+use Rattle.quotes.proofs.priced.Reads as priced-reads
 
-net-requires : tie.Need-net-requires
-net-requires c κs = search needs
-
-least-requires : tie.Need-least-requires
-least-requires c κs = search needs
+priced-requires : tie.Need-priced-requires
+priced-requires c κs = search needs
 
 returns : tie.Need-returns
 unfolding derived
-returns c = (λ longs i. record { price = c .before .net .ensures .0 longs i; units = c .least .ensures longs i }, c .before .net .ensures .1)
+returns c = let e = c .priced .ensures in (λ longs i. record { price = e .0 longs .0 i; units = e .0 longs .1 i }, e .1)
 
 pub derived-spec : {M : Type 1} → statement M
-derived-spec = tie.close (tie.spec net-requires least-requires returns)
+derived-spec = tie.close (tie.spec priced-requires returns)

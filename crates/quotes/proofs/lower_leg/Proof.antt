@@ -1,7 +1,7 @@
 use mathlib.Core.Path.{ap, ap₂, _∙_}
 use mathlib.Core.Bool.{Bool}
 use Prim.Native.Nat.{ℕ, _*_}
-use Rattle.rules.specs.Prices.{Quote, usesAsk, lowerQuote}
+use Rattle.rules.specs.Prices.{usesAsk, lowerQuote}
 use Rattle.types.specs.View.{quoteOf}
 use Rattle.state.specs.View.{legAt}
 use borrow.Author.Needs.{needs}

@@ -1,5 +1,4 @@
 use borrow.Author.Tests.{lt-ltb, le-ltb}
-use borrow.Author.Needs.{needs}
 use Rattle.quotes.proofs.smaller.Statement.{statement}
 use Rattle.quotes.proofs.smaller.Tie as tie
 use Rattle.quotes.proofs.smaller.Reads as reads

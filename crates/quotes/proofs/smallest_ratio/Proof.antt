@@ -16,6 +16,12 @@ use Rattle.number.proofs.lesser.Reads as lesser-reads
 use Rattle.state.proofs.leg_count.Reads as leg-count-reads
 use Rattle.state.proofs.ratio_at.Reads as ratio-at-reads
 
+abbrev ofLegs : List Leg → List Quote → ℕ
+ofLegs ls qs = smallestRatio ls
+
+abbrev ofLegsFrom : ℕ → List Leg → List Quote → ℕ
+ofLegsFrom t ls qs = smallestRatioFrom t ls
+
 abbrev Inv-loop : tie.InvT-loop
 Inv-loop words n t₀ k₀ t k = (1 ≤ k) × (k ≤ n) × (n ≡ legCount words) × (t ≤ mostRatio) × (smallestRatioFrom t (legsFrom words k) ≡ smallestRatio (legsOf words))
 
@@ -26,7 +32,7 @@ leg-count-requires : tie.Need-leg-count-requires Inv-loop μ-loop
 leg-count-requires c κs = search needs
 
 returns : tie.Need-returns Inv-loop μ-loop
-returns c = (λ longs. sym (no-leg (λ (ls : List Leg) (qs : List Quote). smallestRatio ls) (c .before .before .before .args .words .now) 0 (omega arith)), omega arith)
+returns c = (λ longs. sym (no-leg ofLegs (c .before .before .before .args .words .now) 0 (omega arith)), omega arith)
 
 ratio-at-requires : tie.Need-ratio-at-requires Inv-loop μ-loop
 ratio-at-requires c κs = search needs
@@ -38,7 +44,7 @@ loop-holds c =
       omega arith,
       c .before .before .leg-count .ensures,
       omega (arith, c .ratio-at .ensures),
-      ap (λ (x : ℕ). smallestRatioFrom x (legsFrom w 1)) (c .ratio-at .ensures) ∙ sym (next-leg (λ (ls : List Leg) (qs : List Quote). smallestRatio ls) w 0 (omega arith)),
+      ap (λ (x : ℕ). smallestRatioFrom x (legsFrom w 1)) (c .ratio-at .ensures) ∙ sym (next-leg ofLegs w 0 (omega arith)),
     )
 
 ratio-at-requires-2 : tie.Need-ratio-at-requires-2 Inv-loop μ-loop
@@ -62,15 +68,14 @@ loop-again c =
       omega arith,
       L .loop .inv .2,
       omega (arith, L .loop .inv .3, c .lesser .ensures),
-      ap (λ (x : ℕ). smallestRatioFrom x (legsFrom w (k + 1))) (c .lesser .ensures ∙ ap (min (L .loop .t)) (c .before .ratio-at2 .ensures))
-          ∙ sym (next-leg (λ (ls : List Leg) (qs : List Quote). smallestRatioFrom (L .loop .t) ls) w k (omega arith)) ∙ L .loop .inv .4,
+      ap (λ (x : ℕ). smallestRatioFrom x (legsFrom w (k + 1))) (c .lesser .ensures ∙ ap (min (L .loop .t)) (c .before .ratio-at2 .ensures)) ∙ sym (next-leg (ofLegsFrom (L .loop .t)) w k (omega arith)) ∙ L .loop .inv .4,
     )
 
 returns-2 : tie.Need-returns-2 Inv-loop μ-loop
 returns-2 c =
     let L = c .before in
     let w = L .before .before .before .before .before .args .words .now in
-    (λ longs. sym (no-leg (λ (ls : List Leg) (qs : List Quote). smallestRatioFrom (L .loop .t) ls) w (L .loop .k) (omega arith)) ∙ L .loop .inv .4, L .loop .inv .3)
+    (λ longs. sym (no-leg (ofLegsFrom (L .loop .t)) w (L .loop .k) (omega arith)) ∙ L .loop .inv .4, L .loop .inv .3)
 
 pub smallest-ratio-spec : {M : Type 1} → statement M
 smallest-ratio-spec =

@@ -1,8 +1,8 @@
-use Rattle.rules.specs.Strategy.{mostRatio}
 use mathlib.Core.Path.{ap₂}
 use Prim.Native.Nat.{_*_, _≤_}
 use native.Mathlib.Nat.{mul-le-mul}
 use native.Mathlib.Omega.{arith}
+use Rattle.rules.specs.Strategy.{mostRatio}
 use Rattle.quotes.specs.Uses.{mostCost}
 use borrow.Author.Needs.{needs}
 use Rattle.quotes.proofs.times.Statement.{statement}
