@@ -12,10 +12,6 @@ use Rattle.entries.proofs.ScanLaws.{front-step}
 use borrow.Author.Needs.{needs}
 use Rattle.entries.proofs.first_queued.Statement.{statement}
 use Rattle.entries.proofs.first_queued.Tie as tie
-use Rattle.entries.proofs.first_queued.Reads as reads
-use Rattle.entries.proofs.first_queued.Lts as lts
-use Rattle.entries.proofs.put_front.Reads as put-front-reads
-use Rattle.state.proofs.open_count.Reads as open-count-reads
 
 abbrev Inv-loop : tie.InvT-loop
 Inv-loop words a₀ k₀ a k = (k ≤ k₀) × (k₀ ≡ openCount words) × ((longs : List ℕ) → a ≡ frontOf (firstIn (queue (from (entryAt longs words) k k₀))))
@@ -75,7 +71,7 @@ loop-again c =
     let v = L .loop .inv in
     let k = L .loop .k - 1 in
     let q : k + 1 ≡ L .loop .k = omega arith in
-    (omega arith, v .1, λ longs. c .put-front .ensures ∙ rw (q, ← v .2 longs) at (front-step (entryAt longs w) k (L .before .open-count .result) (omega arith)))
+    (omega arith, v .1, λ longs. rw (c .put-front .ensures) (rw (q, ← v .2 longs) at (front-step (entryAt longs w) k (L .before .open-count .result) (omega arith))))
 
 returns : tie.Need-returns Inv-loop μ-loop
 returns c longs =

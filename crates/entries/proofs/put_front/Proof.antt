@@ -1,11 +1,6 @@
 use borrow.Author.Needs.{needs}
 use Rattle.entries.proofs.put_front.Statement.{statement}
 use Rattle.entries.proofs.put_front.Tie as tie
-use Rattle.entries.proofs.put_front.Reads as reads
-use Rattle.entries.proofs.put_front.Lts as lts
-use Rattle.entries.proofs.is_better.Reads as is-better-reads
-use Rattle.entries.proofs.is_queued.Reads as is-queued-reads
-use Rattle.state.proofs.is_set.Reads as is-set-reads
 
 cast-is-better : tie.Need-cast-is-better
 cast-is-better c = search needs
