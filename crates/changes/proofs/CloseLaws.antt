@@ -7,7 +7,7 @@ use native.Mathlib.Omega.{arith}
 use lib.ListN.{getD}
 use Rattle.rules.specs.Book.{Entry, isResponse, withStage, released, expired, releasedAll}
 use Rattle.rules.specs.State.{withBook}
-use Rattle.types.specs.View.{upto, from, stageOf}
+use Rattle.types.specs.View.{upto, stageOf}
 use Rattle.state.specs.Layout as L
 use Rattle.state.specs.View.{entryAt, openCount, entriesOf, stateOf}
 use Rattle.state.specs.Stores.{Kept}

@@ -7,6 +7,7 @@ use native.Mathlib.Omega.{arith}
 use borrow.Author.Count.{below-more}
 use lib.ListN.{length, getD, set, length-set}
 use lib.Seq.{getD-set-same, getD-set-other}
+use Rattle.state.specs.Layout as L
 use Rattle.state.specs.Layout.{WordsSized}
 use Rattle.state.specs.Stores.{Kept}
 use Rattle.state.proofs.StoreLaws.{kept-all, kept-set, done-at, ahead-at}
@@ -22,7 +23,7 @@ module _ (a : ℕ) (P : ℕ → ℕ → Type 0) (old : List ℕ) where
   pub passed-none : WordsSized old → Passed a P old old 0
   passed-none s = record { sized = s; kept = kept-all a (a + 64) old; done = λ i h. absurd (omega arith); ahead = λ i h. refl }
 
-  pub passed-one : (new : List ℕ) (k x : ℕ) → a + 64 ≤ 580 → k < 64 → Passed a P old new k → P k x → Passed a P old (set new (a + k) x) (k + 1)
+  pub passed-one : (new : List ℕ) (k x : ℕ) → a ≤ L.stages → k < 64 → Passed a P old new k → P k x → Passed a P old (set new (a + k) x) (k + 1)
   passed-one new k x q h v p =
       let s = v .sized in
       record {

@@ -1,7 +1,7 @@
 -- One entry more, or none left, of what a scan asks of a table.
 use mathlib.Core.Path.{_≡_, refl, ap, sym, _∙_}
 use mathlib.Core.Bool.{Bool, true, false, _&&_, _||_, not, or-assoc, or-false}
-use mathlib.Core.List.{List, [], _∷_, _++_, append-nil}
+use mathlib.Core.List.{List, [], _∷_}
 use Prim.Native.Nat.{ℕ, _+_, _≤_, _<_}
 use native.Mathlib.Omega.{arith}
 use lib.Dec.{eqb}
@@ -81,26 +81,26 @@ orders-left (e ∷ es) = by (isResponse (e .stage)) (orders-left es)
 -- ---- the first of the queue
 
 -- the front with an entry put before all others
-abbrev pub frontWith : Entry → Front → Bool → Front
-frontWith e a q = pick (q && not (a .there && better (a .buy) (a .price) (e .price))) (record { there = true; buy = e .buy; price = e .price }) a
+abbrev pub frontWith : Entry → Front → Front
+frontWith e a = pick (a .there && better (a .buy) (a .price) (e .price)) a (record { there = true; buy = e .buy; price = e .price })
 
-front-put : (e : Entry) (l : List Entry) → frontOf (firstIn (putByPrice e l)) ≡ frontWith e (frontOf (firstIn l)) true
+front-put : (e : Entry) (l : List Entry) → frontWith e (frontOf (firstIn l)) ≡ frontOf (firstIn (putByPrice e l))
 unfolding putByPrice
 front-put e [] = refl
 front-put e (h ∷ t) = by (better (h .buy) (h .price) (e .price))
   where
-    by : (b : Bool) → frontOf (firstIn (pick b (h ∷ putByPrice e t) (e ∷ h ∷ t))) ≡ pick (not b) (record { there = true; buy = e .buy; price = e .price }) (frontOf (found h))
+    by : (b : Bool) → pick b (frontOf (found h)) (record { there = true; buy = e .buy; price = e .price }) ≡ frontOf (firstIn (pick b (h ∷ putByPrice e t) (e ∷ h ∷ t)))
     by true = refl
     by false = refl
 
-front-only : (e : Entry) (l : List Entry) (q : Bool) → frontOf (firstIn (byPrice (pick q (e ∷ l) l))) ≡ frontWith e (frontOf (firstIn (byPrice l))) q
-unfolding byPrice
-front-only e l true = front-put e (byPrice l)
-front-only e l false = refl
+module _ (f : ℕ → Entry) (k n : ℕ) (h : k < n) where
+  pub front-hit : isQueued (f k .stage) ≡ true → frontWith (f k) (frontOf (firstIn (queue (from f (k + 1) n)))) ≡ frontOf (firstIn (queue (from f k n)))
+  unfolding only byPrice
+  front-hit e = rw (from-cons f k n h, e) (front-put (f k) (queue (from f (k + 1) n)))
 
-pub front-step : (f : ℕ → Entry) (k n : ℕ) → k < n → frontWith (f k) (frontOf (firstIn (queue (from f (k + 1) n)))) (isQueued (f k .stage)) ≡ frontOf (firstIn (queue (from f k n)))
-unfolding only
-front-step f k n h = rw (from-cons f k n h) (sym (front-only (f k) (only (λ e. isQueued (e .stage)) (from f (k + 1) n)) (isQueued (f k .stage))))
+  pub front-miss : isQueued (f k .stage) ≡ false → frontOf (firstIn (queue (from f (k + 1) n))) ≡ frontOf (firstIn (queue (from f k n)))
+  unfolding only
+  front-miss e = rw (from-cons f k n h, e)
 
 pub front-beats : (buy : Bool) (p : ℕ) (x : Found) → (frontOf x .there && better buy p (frontOf x .price)) ≡ beatsFound buy p x
 front-beats buy p nobody = refl

@@ -1,23 +1,19 @@
 -- What is asked of the open entries, where the rules have no name for it.
 use mathlib.Core.Path.{_≡_}
-use mathlib.Core.Bool.{Bool, true, false, _&&_, _||_, not}
+use mathlib.Core.Bool.{Bool, true, false, _&&_, not}
 use mathlib.Core.List.{List}
 use Prim.Native.Nat.{ℕ, _≤_, _<_}
 use denote.Ref.{now}
 use lib.ListN.{length, take, getD}
 use Rattle.rules.specs.Basics.{pick}
 use Rattle.rules.specs.Filter.{beyond}
-use Rattle.rules.specs.Book.{Entry, Found, nobody, found, sameSide, better, isHeld, isLive, isQueued}
+use Rattle.rules.specs.Book.{Entry, Found, nobody, found, sameSide, isLive, isQueued}
 use Rattle.rules.specs.State.{State}
 use Rattle.types.specs.View.{from}
 use Rattle.state.specs.Lent.{Lent, Tells}
 use Rattle.entries.specs.declared.Front.{Front}
 
 -- ---- one entry
-
--- an open order outside the queue, on that side, that the limit is not strictly better than
-abbrev pub stands : Bool → ℕ → Entry → Bool
-stands buy price e = (isHeld (e .stage) || isLive (e .stage)) && sameSide buy (e .buy) && not (better buy price (e .price))
 
 -- a live order on the other side that the limit reaches or misses by at most the distance
 abbrev pub isNearLive : Bool → ℕ → ℕ → Entry → Bool

@@ -3,10 +3,6 @@ use Rattle.changes.proofs.BookLaws.{appended, appended-full}
 use borrow.Author.Needs.{needs}
 use Rattle.changes.proofs.append.Statement.{statement}
 use Rattle.changes.proofs.append.Tie as tie
-use Rattle.changes.proofs.append.Reads as reads
-use Rattle.changes.proofs.append.Lts as lts
-use Rattle.state.proofs.open_count.Reads as open-count-reads
-use Rattle.state.proofs.put_entry.Reads as put-entry-reads
 
 open-count-requires : tie.Need-open-count-requires
 open-count-requires c κs = search needs

@@ -2,11 +2,6 @@ use Rattle.changes.proofs.CloseLaws.{closed-by}
 use borrow.Author.Needs.{needs}
 use Rattle.changes.proofs.close.Statement.{statement}
 use Rattle.changes.proofs.close.Tie as tie
-use Rattle.changes.proofs.close.Reads as reads
-use Rattle.changes.proofs.close.Lts as lts
-use Rattle.changes.proofs.compact.Reads as compact-reads
-use Rattle.changes.proofs.orders.Reads as orders-reads
-use Rattle.changes.proofs.release.Reads as release-reads
 
 orders-requires : tie.Need-orders-requires
 orders-requires c κs = search needs

@@ -1,5 +1,5 @@
 use mathlib.Core.Path.{_≡_}
-use Prim.Native.Nat.{ℕ, _-_, _≤_}
+use Prim.Native.Nat.{_-_, _≤_}
 use native.Mathlib.Omega.{arith}
 use lib.ListN.{length-set}
 use Rattle.state.specs.View.{openCount}
@@ -7,13 +7,6 @@ use Rattle.changes.proofs.BookLaws.{Going, going-start, going-step, goi
 use borrow.Author.Needs.{needs}
 use Rattle.changes.proofs.compact.Statement.{statement}
 use Rattle.changes.proofs.compact.Tie as tie
-use Rattle.changes.proofs.compact.Reads as reads
-use Rattle.changes.proofs.compact.Lts as lts
-use Rattle.changes.proofs.staying.Reads as staying-reads
-use Rattle.entries.proofs.one_if.Reads as one-if-reads
-use Rattle.state.proofs.entry_at.Reads as entry-at-reads
-use Rattle.state.proofs.open_count.Reads as open-count-reads
-use Rattle.state.proofs.put_entry.Reads as put-entry-reads
 
 abbrev Inv-loop : tie.InvT-loop
 Inv-loop longs₀ words₀ keep m w₀ k₀ longs words w k = (k ≤ m) × (w ≤ k) × (m ≡ openCount words₀) × Going keep longs₀ words₀ longs words m w k

@@ -11,10 +11,6 @@ use Rattle.changes.proofs.PassLaws.{flag-more}
 use borrow.Author.Needs.{needs}
 use Rattle.changes.proofs.orders.Statement.{statement}
 use Rattle.changes.proofs.orders.Tie as tie
-use Rattle.changes.proofs.orders.Reads as reads
-use Rattle.changes.proofs.orders.Lts as lts
-use Rattle.entries.proofs.is_response.Reads as is-response-reads
-use Rattle.state.proofs.open_count.Reads as open-count-reads
 
 abbrev Inv-loop : tie.InvT-loop
 Inv-loop words m keep₀ k₀ keep k = (k ≤ m) × (m ≡ openCount words) × (length keep ≡ 64) × ((i : ℕ) → i < k → getD keep i false ≡ not (isResponse (stageOf (getD words (L.stages + i) 0))))

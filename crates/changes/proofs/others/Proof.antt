@@ -9,9 +9,6 @@ use Rattle.changes.proofs.PassLaws.{flag-more}
 use borrow.Author.Needs.{needs}
 use Rattle.changes.proofs.others.Statement.{statement}
 use Rattle.changes.proofs.others.Tie as tie
-use Rattle.changes.proofs.others.Reads as reads
-use Rattle.changes.proofs.others.Lts as lts
-use Rattle.state.proofs.open_count.Reads as open-count-reads
 
 abbrev Inv-loop : tie.InvT-loop
 Inv-loop words a x m keep₀ k₀ keep k = (k ≤ m) × (m ≡ openCount words) × (length keep ≡ 64) × ((i : ℕ) → i < k → getD keep i false ≡ not (eqb (getD words (a + i) 0) x))

@@ -10,10 +10,6 @@ use Rattle.changes.proofs.PassLaws.{Passed, passed-none, passed-one}
 use borrow.Author.Needs.{needs}
 use Rattle.changes.proofs.release.Statement.{statement}
 use Rattle.changes.proofs.release.Tie as tie
-use Rattle.changes.proofs.release.Reads as reads
-use Rattle.changes.proofs.release.Lts as lts
-use Rattle.changes.proofs.released_stage.Reads as released-stage-reads
-use Rattle.state.proofs.open_count.Reads as open-count-reads
 
 abbrev Inv-loop : tie.InvT-loop
 Inv-loop words₀ m k₀ words k = (k ≤ m) × (m ≡ openCount words₀) × Passed L.stages (λ i s. stageOf s ≡ released (stageOf (getD words₀ (L.stages + i) 0))) words₀ words k

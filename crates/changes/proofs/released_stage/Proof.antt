@@ -1,10 +1,7 @@
 use mathlib.Core.Path.{refl}
 use Rattle.changes.proofs.CloseLaws.{stays}
-use borrow.Author.Needs.{needs}
 use Rattle.changes.proofs.released_stage.Statement.{statement}
 use Rattle.changes.proofs.released_stage.Tie as tie
-use Rattle.changes.proofs.released_stage.Reads as reads
-use Rattle.changes.proofs.released_stage.Lts as lts
 
 returns : tie.Need-returns
 returns c = rw (c .if1 .taken) refl

@@ -4,10 +4,6 @@ use Rattle.changes.proofs.BookLaws.{becomes}
 use borrow.Author.Needs.{needs}
 use Rattle.changes.proofs.remove.Statement.{statement}
 use Rattle.changes.proofs.remove.Tie as tie
-use Rattle.changes.proofs.remove.Reads as reads
-use Rattle.changes.proofs.remove.Lts as lts
-use Rattle.changes.proofs.compact.Reads as compact-reads
-use Rattle.changes.proofs.others.Reads as others-reads
 
 others-requires : tie.Need-others-requires
 others-requires c κs = search needs

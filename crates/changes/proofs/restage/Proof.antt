@@ -1,5 +1,5 @@
 use mathlib.Core.Path.{_≡_}
-use Prim.Native.Nat.{ℕ, _+_, _-_, _≤_}
+use Prim.Native.Nat.{_+_, _-_, _≤_}
 use native.Mathlib.Omega.{arith}
 use lib.Dec.{eqb}
 use lib.ListN.{getD}
@@ -10,10 +10,6 @@ use Rattle.changes.proofs.PassLaws.{Passed, passed-none, passed-one}
 use borrow.Author.Needs.{needs}
 use Rattle.changes.proofs.restage.Statement.{statement}
 use Rattle.changes.proofs.restage.Tie as tie
-use Rattle.changes.proofs.restage.Reads as reads
-use Rattle.changes.proofs.restage.Lts as lts
-use Rattle.changes.proofs.stage_after.Reads as stage-after-reads
-use Rattle.state.proofs.open_count.Reads as open-count-reads
 
 abbrev Inv-loop : tie.InvT-loop
 Inv-loop words₀ id stage m k₀ words k = (k ≤ m) × (m ≡ openCount words₀) × Passed L.stages (λ i s. s ≡ pick (eqb (getD words₀ (L.ids + i) 0) id) stage (getD words₀ (L.stages + i) 0)) words₀ words k

@@ -2,12 +2,6 @@ use Rattle.changes.proofs.SettleLaws.{settled-by}
 use borrow.Author.Needs.{needs}
 use Rattle.changes.proofs.settle.Statement.{statement}
 use Rattle.changes.proofs.settle.Tie as tie
-use Rattle.changes.proofs.settle.Reads as reads
-use Rattle.changes.proofs.settle.Lts as lts
-use Rattle.changes.proofs.compact.Reads as compact-reads
-use Rattle.changes.proofs.others.Reads as others-reads
-use Rattle.changes.proofs.restage.Reads as restage-reads
-use Rattle.changes.proofs.spend.Reads as spend-reads
 
 spend-requires : tie.Need-spend-requires
 spend-requires c κs = search needs

@@ -1,5 +1,5 @@
 use mathlib.Core.Path.{_≡_}
-use Prim.Native.Nat.{ℕ, _+_, _-_, _≤_}
+use Prim.Native.Nat.{_+_, _-_, _≤_}
 use native.Mathlib.Omega.{arith}
 use lib.Dec.{eqb}
 use lib.ListN.{getD}
@@ -10,10 +10,6 @@ use Rattle.changes.proofs.PassLaws.{Passed, passed-none, passed-one}
 use borrow.Author.Needs.{needs}
 use Rattle.changes.proofs.spend.Statement.{statement}
 use Rattle.changes.proofs.spend.Tie as tie
-use Rattle.changes.proofs.spend.Reads as reads
-use Rattle.changes.proofs.spend.Lts as lts
-use Rattle.changes.proofs.units_after.Reads as units-after-reads
-use Rattle.state.proofs.open_count.Reads as open-count-reads
 
 abbrev Inv-loop : tie.InvT-loop
 Inv-loop words₀ gave id took m k₀ words k =

@@ -8,8 +8,6 @@ use lib.ListN.{getD}
 use borrow.Author.Needs.{needs}
 use Rattle.changes.proofs.staying.Statement.{statement}
 use Rattle.changes.proofs.staying.Tie as tie
-use Rattle.changes.proofs.staying.Reads as reads
-use Rattle.changes.proofs.staying.Lts as lts
 
 abbrev Inv-loop : tie.InvT-loop
 Inv-loop keep n k₀ k = (k ≤ n) × (n ≤ 64) × ((i : ℕ) → i < k → getD keep i false ≡ true)

@@ -1,9 +1,6 @@
 use borrow.Author.Needs.{needs}
 use Rattle.changes.proofs.units_after.Statement.{statement}
 use Rattle.changes.proofs.units_after.Tie as tie
-use Rattle.changes.proofs.units_after.Reads as reads
-use Rattle.changes.proofs.units_after.Lts as lts
-use Rattle.number.proofs.less.Reads as less-reads
 
 less-requires : tie.Need-less-requires
 less-requires c κs = search needs

@@ -4,10 +4,6 @@ use Rattle.entries.proofs.ScanLaws.{front-beats}
 use borrow.Author.Needs.{needs}
 use Rattle.entries.proofs.beats.Statement.{statement}
 use Rattle.entries.proofs.beats.Tie as tie
-use Rattle.entries.proofs.beats.Reads as reads
-use Rattle.entries.proofs.beats.Lts as lts
-use Rattle.entries.proofs.first_queued.Reads as first-queued-reads
-use Rattle.entries.proofs.is_better.Reads as is-better-reads
 
 first-queued-requires : tie.Need-first-queued-requires
 first-queued-requires c κs = search needs

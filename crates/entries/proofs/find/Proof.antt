@@ -10,9 +10,6 @@ use Rattle.entries.proofs.ScanLaws.{find-hit, find-miss, find-end}
 use borrow.Author.Needs.{needs}
 use Rattle.entries.proofs.find.Statement.{statement}
 use Rattle.entries.proofs.find.Tie as tie
-use Rattle.entries.proofs.find.Reads as reads
-use Rattle.entries.proofs.find.Lts as lts
-use Rattle.state.proofs.open_count.Reads as open-count-reads
 
 abbrev Inv-loop : tie.InvT-loop
 Inv-loop words id m k₀ k = (k ≤ m) × (m ≡ openCount words) × ((longs : List ℕ) → find id (from (entryAt longs words) k m) ≡ find id (from (entryAt longs words) 0 m))

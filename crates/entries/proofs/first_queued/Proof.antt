@@ -1,4 +1,4 @@
-use mathlib.Core.Path.{_≡_, _∙_}
+use mathlib.Core.Path.{_≡_, sym, _∙_}
 use mathlib.Core.List.{List}
 use Prim.Native.Nat.{ℕ, _+_, _-_, _≤_}
 use native.Mathlib.Omega.{arith}
@@ -8,14 +8,10 @@ use Rattle.types.specs.View.{from}
 use Rattle.types.proofs.TableLaws.{from-end}
 use Rattle.state.specs.View.{entryAt, openCount}
 use Rattle.entries.specs.Questions.{frontOf}
-use Rattle.entries.proofs.ScanLaws.{front-step}
+use Rattle.entries.proofs.ScanLaws.{front-hit, front-miss}
 use borrow.Author.Needs.{needs}
 use Rattle.entries.proofs.first_queued.Statement.{statement}
 use Rattle.entries.proofs.first_queued.Tie as tie
-use Rattle.entries.proofs.first_queued.Reads as reads
-use Rattle.entries.proofs.first_queued.Lts as lts
-use Rattle.entries.proofs.put_front.Reads as put-front-reads
-use Rattle.state.proofs.open_count.Reads as open-count-reads
 
 abbrev Inv-loop : tie.InvT-loop
 Inv-loop words a₀ k₀ a k = (k ≤ k₀) × (k₀ ≡ openCount words) × ((longs : List ℕ) → a ≡ frontOf (firstIn (queue (from (entryAt longs words) k k₀))))
@@ -35,6 +31,18 @@ loop-holds c =
 sub-k : tie.Need-sub-k Inv-loop μ-loop
 sub-k c = search needs
 
+add-is-queued : tie.Need-add-is-queued Inv-loop μ-loop
+add-is-queued c = search needs
+
+mul-is-queued : tie.Need-mul-is-queued Inv-loop μ-loop
+mul-is-queued c = search needs
+
+shared-slice-read-is-queued : tie.Need-shared-slice-read-is-queued Inv-loop μ-loop
+shared-slice-read-is-queued c = search needs
+
+is-queued-requires : tie.Need-is-queued-requires Inv-loop μ-loop
+is-queued-requires c κs = search needs
+
 add-put-front : tie.Need-add-put-front Inv-loop μ-loop
 add-put-front c = search needs
 
@@ -53,15 +61,6 @@ mul-put-front-2 c = search needs
 shared-slice-read-put-front-2 : tie.Need-shared-slice-read-put-front-2 Inv-loop μ-loop
 shared-slice-read-put-front-2 c = search needs
 
-add-put-front-3 : tie.Need-add-put-front-3 Inv-loop μ-loop
-add-put-front-3 c = search needs
-
-mul-put-front-3 : tie.Need-mul-put-front-3 Inv-loop μ-loop
-mul-put-front-3 c = search needs
-
-shared-slice-read-put-front-3 : tie.Need-shared-slice-read-put-front-3 Inv-loop μ-loop
-shared-slice-read-put-front-3 c = search needs
-
 put-front-requires : tie.Need-put-front-requires Inv-loop μ-loop
 put-front-requires c κs = search needs
 
@@ -70,12 +69,30 @@ loop-less c = search needs
 
 loop-again : tie.Need-loop-again Inv-loop μ-loop
 loop-again c =
-    let L = c .before .before .before .before .before in
+    let Q = c .before .before .before .before in
+    let L = Q .before .before .before in
+    let w = L .before .before .before .args .words .now in
+    let v = L .loop .inv in
+    let k = L .loop .k - 1 in
+    let q : k + 1 ≡ L .loop .k = omega arith in (
+      omega arith,
+      v .1,
+      λ longs.
+          rw (c .put-front .ensures) (rw (q, ← v .2 longs) at (front-hit (entryAt longs w) k (L .before .open-count .result) (omega arith) (sym (Q .is-queued .ensures) ∙ c .before .before .before .if1 .taken))),
+    )
+
+loop-less-2 : tie.Need-loop-less-2 Inv-loop μ-loop
+loop-less-2 c = search needs
+
+loop-again-2 : tie.Need-loop-again-2 Inv-loop μ-loop
+loop-again-2 c =
+    let Q = c .before in
+    let L = Q .before .before .before in
     let w = L .before .before .before .args .words .now in
     let v = L .loop .inv in
     let k = L .loop .k - 1 in
     let q : k + 1 ≡ L .loop .k = omega arith in
-    (omega arith, v .1, λ longs. c .put-front .ensures ∙ rw (q, ← v .2 longs) at (front-step (entryAt longs w) k (L .before .open-count .result) (omega arith)))
+    (omega arith, v .1, λ longs. rw (q, ← v .2 longs) at (front-miss (entryAt longs w) k (L .before .open-count .result) (omega arith) (sym (Q .is-queued .ensures) ∙ c .if1 .left)))
 
 returns : tie.Need-returns Inv-loop μ-loop
 returns c longs =
@@ -92,16 +109,19 @@ first-queued-spec =
     open-count-requires
     loop-holds
     sub-k
+    add-is-queued
+    mul-is-queued
+    shared-slice-read-is-queued
+    is-queued-requires
     add-put-front
     mul-put-front
     shared-slice-read-put-front
     add-put-front-2
     mul-put-front-2
     shared-slice-read-put-front-2
-    add-put-front-3
-    mul-put-front-3
-    shared-slice-read-put-front-3
     put-front-requires
     loop-less
     loop-again
+    loop-less-2
+    loop-again-2
     returns)

@@ -1,18 +1,18 @@
-use mathlib.Core.Path.{_≡_, refl, ap}
-use mathlib.Core.Bool.{Bool, not, _||_}
+use mathlib.Core.Path.{_≡_, refl}
+use mathlib.Core.Bool.{Bool, _&&_, _||_, not}
 use mathlib.Core.List.{List}
 use Prim.Native.Nat.{ℕ, _-_, _≤_}
 use native.Mathlib.Omega.{arith}
+use Rattle.rules.specs.Book.{Entry, sameSide, better, isHeld, isLive}
 use Rattle.state.specs.View.{entryAt, openCount}
-use Rattle.entries.specs.Questions.{stands}
 use Rattle.entries.proofs.ScanLaws.{Seen, seen-step, seen-end}
 use borrow.Author.Needs.{needs}
 use Rattle.entries.proofs.in_front.Statement.{statement}
 use Rattle.entries.proofs.in_front.Tie as tie
-use Rattle.entries.proofs.in_front.Reads as reads
-use Rattle.entries.proofs.in_front.Lts as lts
-use Rattle.entries.proofs.is_standing.Reads as is-standing-reads
-use Rattle.state.proofs.open_count.Reads as open-count-reads
+
+-- an open order outside the queue, on that side, that the limit is not strictly better than
+abbrev stands : Bool → ℕ → Entry → Bool
+stands buy price e = (isHeld (e .stage) || isLive (e .stage)) && sameSide buy (e .buy) && not (better buy price (e .price))
 
 abbrev Inv-loop : tie.InvT-loop
 Inv-loop words buy price m seen₀ k₀ seen k = (k ≤ m) × (m ≡ openCount words) × ((longs : List ℕ) → Seen seen (stands buy price) (entryAt longs words) k m)

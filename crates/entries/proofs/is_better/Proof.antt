@@ -1,8 +1,5 @@
-use borrow.Author.Needs.{needs}
 use Rattle.entries.proofs.is_better.Statement.{statement}
 use Rattle.entries.proofs.is_better.Tie as tie
-use Rattle.entries.proofs.is_better.Reads as reads
-use Rattle.entries.proofs.is_better.Lts as lts
 
 returns : tie.Need-returns
 returns c = rw (c .if1 .taken)

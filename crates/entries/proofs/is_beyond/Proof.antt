@@ -1,8 +1,6 @@
 use borrow.Author.Needs.{needs}
 use Rattle.entries.proofs.is_beyond.Statement.{statement}
 use Rattle.entries.proofs.is_beyond.Tie as tie
-use Rattle.entries.proofs.is_beyond.Reads as reads
-use Rattle.entries.proofs.is_beyond.Lts as lts
 
 add-result : tie.Need-add-result
 add-result c = search needs

@@ -1,9 +1,6 @@
 use Rattle.entries.proofs.StageLaws.{held-is}
-use borrow.Author.Needs.{needs}
 use Rattle.entries.proofs.is_held.Statement.{statement}
 use Rattle.entries.proofs.is_held.Tie as tie
-use Rattle.entries.proofs.is_held.Reads as reads
-use Rattle.entries.proofs.is_held.Lts as lts
 
 returns : tie.Need-returns
 returns c = held-is (c .args .stage)

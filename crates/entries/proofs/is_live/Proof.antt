@@ -1,9 +1,6 @@
 use Rattle.entries.proofs.StageLaws.{live-is}
-use borrow.Author.Needs.{needs}
 use Rattle.entries.proofs.is_live.Statement.{statement}
 use Rattle.entries.proofs.is_live.Tie as tie
-use Rattle.entries.proofs.is_live.Reads as reads
-use Rattle.entries.proofs.is_live.Lts as lts
 
 returns : tie.Need-returns
 returns c = live-is (c .args .stage)

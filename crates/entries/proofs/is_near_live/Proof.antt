@@ -1,12 +1,6 @@
 use borrow.Author.Needs.{needs}
 use Rattle.entries.proofs.is_near_live.Statement.{statement}
 use Rattle.entries.proofs.is_near_live.Tie as tie
-use Rattle.entries.proofs.is_near_live.Reads as reads
-use Rattle.entries.proofs.is_near_live.Lts as lts
-use Rattle.entries.proofs.is_beyond.Reads as is-beyond-reads
-use Rattle.entries.proofs.is_live.Reads as is-live-reads
-use Rattle.entries.proofs.same_side.Reads as same-side-reads
-use Rattle.state.proofs.is_set.Reads as is-set-reads
 
 is-live-requires : tie.Need-is-live-requires
 is-live-requires c κs = search needs

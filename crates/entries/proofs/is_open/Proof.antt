@@ -8,9 +8,6 @@ use Rattle.entries.proofs.ScanLaws.{Seen, seen-step, seen-end}
 use borrow.Author.Needs.{needs}
 use Rattle.entries.proofs.is_open.Statement.{statement}
 use Rattle.entries.proofs.is_open.Tie as tie
-use Rattle.entries.proofs.is_open.Reads as reads
-use Rattle.entries.proofs.is_open.Lts as lts
-use Rattle.state.proofs.open_count.Reads as open-count-reads
 
 abbrev Inv-loop : tie.InvT-loop
 Inv-loop words id m seen₀ k₀ seen k = (k ≤ m) × (m ≡ openCount words) × ((longs : List ℕ) → Seen seen (λ e. eqb (e .id) id) (entryAt longs words) k m)

@@ -1,9 +1,6 @@
 use Rattle.entries.proofs.StageLaws.{queued-is}
-use borrow.Author.Needs.{needs}
 use Rattle.entries.proofs.is_queued.Statement.{statement}
 use Rattle.entries.proofs.is_queued.Tie as tie
-use Rattle.entries.proofs.is_queued.Reads as reads
-use Rattle.entries.proofs.is_queued.Lts as lts
 
 returns : tie.Need-returns
 returns c = queued-is (c .args .stage)

@@ -1,13 +1,6 @@
 use borrow.Author.Needs.{needs}
 use Rattle.entries.proofs.is_standing.Statement.{statement}
 use Rattle.entries.proofs.is_standing.Tie as tie
-use Rattle.entries.proofs.is_standing.Reads as reads
-use Rattle.entries.proofs.is_standing.Lts as lts
-use Rattle.entries.proofs.is_better.Reads as is-better-reads
-use Rattle.entries.proofs.is_held.Reads as is-held-reads
-use Rattle.entries.proofs.is_live.Reads as is-live-reads
-use Rattle.entries.proofs.same_side.Reads as same-side-reads
-use Rattle.state.proofs.is_set.Reads as is-set-reads
 
 is-held-requires : tie.Need-is-held-requires
 is-held-requires c κs = search needs

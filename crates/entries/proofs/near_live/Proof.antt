@@ -1,5 +1,4 @@
-use mathlib.Core.Path.{_≡_, refl, ap}
-use mathlib.Core.Bool.{Bool, _||_}
+use mathlib.Core.Path.{_≡_, refl}
 use mathlib.Core.List.{List}
 use Prim.Native.Nat.{ℕ, _-_, _≤_}
 use native.Mathlib.Omega.{arith}
@@ -9,10 +8,6 @@ use Rattle.entries.proofs.ScanLaws.{Seen, seen-step, seen-end}
 use borrow.Author.Needs.{needs}
 use Rattle.entries.proofs.near_live.Statement.{statement}
 use Rattle.entries.proofs.near_live.Tie as tie
-use Rattle.entries.proofs.near_live.Reads as reads
-use Rattle.entries.proofs.near_live.Lts as lts
-use Rattle.entries.proofs.is_near_live.Reads as is-near-live-reads
-use Rattle.state.proofs.open_count.Reads as open-count-reads
 
 abbrev Inv-loop : tie.InvT-loop
 Inv-loop words buy price distance m seen₀ k₀ seen k = (k ≤ m) × (m ≡ openCount words) × ((longs : List ℕ) → Seen seen (isNearLive buy price distance) (entryAt longs words) k m)

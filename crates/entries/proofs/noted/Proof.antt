@@ -1,10 +1,6 @@
 use borrow.Author.Needs.{needs}
 use Rattle.entries.proofs.noted.Statement.{statement}
 use Rattle.entries.proofs.noted.Tie as tie
-use Rattle.entries.proofs.noted.Reads as reads
-use Rattle.entries.proofs.noted.Lts as lts
-use Rattle.entries.proofs.is_queued.Reads as is-queued-reads
-use Rattle.entries.proofs.is_response.Reads as is-response-reads
 
 is-response-requires : tie.Need-is-response-requires
 is-response-requires c κs = search needs

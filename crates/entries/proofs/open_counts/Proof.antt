@@ -10,11 +10,6 @@ use Rattle.entries.proofs.ScanLaws.{count-step, count-end, orders-left}
 use borrow.Author.Needs.{needs}
 use Rattle.entries.proofs.open_counts.Statement.{statement}
 use Rattle.entries.proofs.open_counts.Tie as tie
-use Rattle.entries.proofs.open_counts.Reads as reads
-use Rattle.entries.proofs.open_counts.Lts as lts
-use Rattle.entries.proofs.is_response.Reads as is-response-reads
-use Rattle.entries.proofs.one_if.Reads as one-if-reads
-use Rattle.state.proofs.open_count.Reads as open-count-reads
 
 abbrev Inv-loop : tie.InvT-loop
 Inv-loop words m responses₀ k₀ responses k =

@@ -1,11 +1,9 @@
 use borrow.Author.Needs.{needs}
 use Rattle.entries.proofs.put_front.Statement.{statement}
 use Rattle.entries.proofs.put_front.Tie as tie
-use Rattle.entries.proofs.put_front.Reads as reads
-use Rattle.entries.proofs.put_front.Lts as lts
-use Rattle.entries.proofs.is_better.Reads as is-better-reads
-use Rattle.entries.proofs.is_queued.Reads as is-queued-reads
-use Rattle.state.proofs.is_set.Reads as is-set-reads
+
+is-set-requires : tie.Need-is-set-requires
+is-set-requires c κs = search needs
 
 cast-is-better : tie.Need-cast-is-better
 cast-is-better c = search needs
@@ -13,29 +11,16 @@ cast-is-better c = search needs
 is-better-requires : tie.Need-is-better-requires
 is-better-requires c κs = search needs
 
-is-set-requires : tie.Need-is-set-requires
-is-set-requires c κs = search needs
-
-is-queued-requires : tie.Need-is-queued-requires
-is-queued-requires c κs = search needs
-
 returns : tie.Need-returns
 returns c =
-    let B = c .before in
-    rw (← B .is-queued .ensures, ← B .before .before .before .is-better .ensures, ← B .before .is-set .ensures, c .if1 .taken)
+    let B = c .before .before in
+    rw (← B .is-better .ensures, c .if1 .taken)
 
 returns-2 : tie.Need-returns-2
 returns-2 c =
-    let B = c .before in
-    rw (← B .is-queued .ensures, ← B .before .before .before .is-better .ensures, c .if1 .left)
+    let B = c .before .before in
+    rw (← B .is-better .ensures, ← B .before .before .is-set .ensures, c .if1 .left)
 
 pub put-front-spec : {M : Type 1} → statement M
 put-front-spec =
-    tie.close
-    (tie.spec
-    cast-is-better
-    is-better-requires
-    is-set-requires
-    is-queued-requires
-    returns
-    returns-2)
+    tie.close (tie.spec is-set-requires cast-is-better is-better-requires returns returns-2)

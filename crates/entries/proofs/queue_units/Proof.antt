@@ -2,17 +2,13 @@ use mathlib.Core.Path.{_≡_}
 use mathlib.Core.List.{List}
 use Prim.Native.Nat.{ℕ, _+_, _-_, _*_, _≤_}
 use native.Mathlib.Omega.{arith}
-use Rattle.rules.specs.Book.{Entry, unitsIf, isQueued}
+use Rattle.rules.specs.Book.{unitsIf, isQueued}
 use Rattle.types.specs.View.{from}
 use Rattle.state.specs.View.{entryAt, openCount}
 use Rattle.entries.proofs.ScanLaws.{units-step, units-end}
 use borrow.Author.Needs.{needs}
 use Rattle.entries.proofs.queue_units.Statement.{statement}
 use Rattle.entries.proofs.queue_units.Tie as tie
-use Rattle.entries.proofs.queue_units.Reads as reads
-use Rattle.entries.proofs.queue_units.Lts as lts
-use Rattle.entries.proofs.units_queued.Reads as units-queued-reads
-use Rattle.state.proofs.open_count.Reads as open-count-reads
 
 abbrev Inv-loop : tie.InvT-loop
 Inv-loop words m sum₀ k₀ sum k =

@@ -10,11 +10,6 @@ use Rattle.entries.proofs.ScanLaws.{Seen, seen-step, seen-end}
 use borrow.Author.Needs.{needs}
 use Rattle.entries.proofs.standing_of.Statement.{statement}
 use Rattle.entries.proofs.standing_of.Tie as tie
-use Rattle.entries.proofs.standing_of.Reads as reads
-use Rattle.entries.proofs.standing_of.Lts as lts
-use Rattle.entries.proofs.is_of.Reads as is-of-reads
-use Rattle.entries.proofs.noted.Reads as noted-reads
-use Rattle.state.proofs.open_count.Reads as open-count-reads
 
 abbrev Inv-loop : tie.InvT-loop
 Inv-loop words id participant m s₀ k₀ s k =

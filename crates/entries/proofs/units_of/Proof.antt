@@ -2,10 +2,6 @@ use borrow.Author.Tests.{lt-ltb, le-ltb}
 use borrow.Author.Needs.{needs}
 use Rattle.entries.proofs.units_of.Statement.{statement}
 use Rattle.entries.proofs.units_of.Tie as tie
-use Rattle.entries.proofs.units_of.Reads as reads
-use Rattle.entries.proofs.units_of.Lts as lts
-use Rattle.entries.proofs.find.Reads as find-reads
-use Rattle.state.proofs.open_count.Reads as open-count-reads
 
 open-count-requires : tie.Need-open-count-requires
 open-count-requires c κs = search needs

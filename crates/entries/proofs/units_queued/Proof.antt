@@ -2,9 +2,6 @@ use native.Mathlib.Omega.{arith}
 use borrow.Author.Needs.{needs}
 use Rattle.entries.proofs.units_queued.Statement.{statement}
 use Rattle.entries.proofs.units_queued.Tie as tie
-use Rattle.entries.proofs.units_queued.Reads as reads
-use Rattle.entries.proofs.units_queued.Lts as lts
-use Rattle.entries.proofs.is_queued.Reads as is-queued-reads
 
 is-queued-requires : tie.Need-is-queued-requires
 is-queued-requires c κs = search needs
