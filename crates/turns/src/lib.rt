@@ -1,0 +1,470 @@
+// Document 01, "Execution": one order's turn in the lent state, its records written into the lent list as they come; and the turns of the orders under some ids.
+use offers::Mode;
+use offers::Rank;
+use state::Book;
+use state::Clock;
+use state::Stage;
+use types::Derived;
+ghost use mathlib.Core.Path.{_≡_};
+ghost use mathlib.Core.Bool.{true};
+ghost use mathlib.Core.List.{List};
+ghost use Prim.Native.Nat.{ℕ, _+_, _-_, _*_, _%_, _<_, _≤_};
+ghost use lib.Dec.{eqb};
+ghost use lib.ListN.{length, take};
+ghost use Rattle.rules.specs.Basics.{pick, sum};
+ghost use Rattle.rules.specs.Turn.{isShared, deal};
+ghost use Rattle.rules.specs.Execution.{legsPass, turnOf, stageAfter, executed, ready, executeIf, execute, serve};
+ghost use Rattle.types.specs.View.{stageOf, derivedOf};
+ghost use Rattle.state.specs.Layout.{Sized, WordsSized};
+ghost use Rattle.state.specs.View.{entryAt, stateOf};
+ghost use Rattle.state.specs.Lent.{Becomes};
+ghost use Rattle.records.specs.Records.{mostGiven, Writes};
+ghost use Rattle.offers.specs.Slots.{modeOf, offersIn};
+ghost use Rattle.turns.specs.Walk.{noPlace, nearer, gathered, leastFrom, sizesOf, over, Under};
+ghost use Rattle.turns.specs.Turned.{slotRecords, Slotted, WritesAt, Cleared, Turned, orderAt, IsContra, Turns, Gives};
+ghost use Rattle.turns.specs.Plays.{Plays};
+
+// ---- records
+
+// The record of units that a slot gives, by the number of its rank; "a share of 0 has none".
+fn put_slot(
+    words: &[u32],
+    list: &mut [u64],
+    at: usize,
+    number: u64,
+    order: u32,
+    legs: u64,
+    rank: u32,
+    slot: usize,
+    units: u32,
+) -> usize
+    requires { ⌜ WordsSized (now words) × (slot < 65) × (legs ≤ mostGiven) ⌝ }
+    ensures { λ r. ⌜ Writes list at r (slotRecords number order legs (now (words .entry)) rank slot units) ⌝ }
+{
+    if units == 0 {
+        return at;
+    }
+    if slot == 0 {
+        return records::put_record(list, at, number, order, rank, 0, legs, units);
+    }
+    let k = slot - 1;
+    let contra = records::contra_of(words[Book::IDS + k]);
+    let price = number::wide(words[Book::PRICES + k]);
+    records::put_record(list, at, number, order, rank, contra, price, units)
+}
+
+// ---- the nearest place
+
+// No place: above every one.
+const NONE: u64 = 4_294_967_296;
+
+// A place, and the units there.
+struct Place {
+    pub number: u64,
+    pub units: u64,
+}
+
+// The nearest place from b on that has units, where m is so far, with a slot of u units at p.
+fn nearer(b: u64, m: Place, p: u32, u: u32) -> Place
+    requires { ⌜ m .units ≤ 64 * 4294967295 ⌝ }
+    ensures { λ r. ⌜ (r .number ≡ nearer b (m .number) p u) × (r .units ≡ gathered b (m .number) (m .units) p u) × (r .units ≤ m .units + 4294967295) × (p < noPlace) ⌝ }
+{
+    let q = p as u64;
+    if q < b {
+        return m;
+    }
+    if m.number < q {
+        return m;
+    }
+    if u == 0 {
+        return m;
+    }
+    if q < m.number {
+        return Place {
+            number: q,
+            units: u as u64,
+        };
+    }
+    Place {
+        number: q,
+        units: m.units + (u as u64),
+    }
+}
+
+// The nearest place from b on that has units, if there is one, and "the rank's total".
+fn nearest(places: &[u32; 65], units: &[u32; 65], n: usize, b: u64) -> Place
+    requires { ⌜ (n ≤ 65) × (length (now places) ≡ 65) × (length (now units) ≡ 65) × (b ≤ noPlace) ⌝ }
+    ensures { λ r. ⌜ (r .number ≡ leastFrom b noPlace (take n (now (places .entry))) (take n (now (units .entry))))
+        × (r .units ≡ sum (sizesOf (r .number) (take n (now (places .entry))) (take n (now (units .entry))))) × Under noPlace (take n (now (places .entry))) ⌝ }
+{
+    let mut m = Place {
+        number: NONE,
+        units: 0,
+    };
+    let mut i = 0;
+    while i < n {
+        m = nearer(b, m, places[i], units[i]);
+        i += 1;
+    }
+    m
+}
+
+// ---- what the slots at one place give
+
+// The order whose turn it is: the number of the message that executes it, its id and units, and the legs' price for it.
+struct Order {
+    pub number: u64,
+    pub id: u32,
+    pub units: u32,
+    pub legs: u64,
+}
+
+// The new grants of those at place k, and their records, by arrival.
+fn give(
+    words: &[u32],
+    list: &mut [u64],
+    at: usize,
+    o: Order,
+    places: &[u32; 65],
+    n: usize,
+    k: u64,
+    new: &[u32; 65],
+    gave: &mut [u32; 65],
+) -> usize
+    requires { ⌜ Slotted (now words) (now places) o n × (length (now new) ≡ 65) × (length (now gave) ≡ 65) ⌝ }
+    ensures { λ r. ⌜ (length (now (gave .exit)) ≡ 65) × (take n (now (gave .exit)) ≡ over k (take n (now (places .entry))) (take n (now (new .entry))) (take n (now (gave .entry))))
+        × WritesAt k words list at r o places n gave ⌝ }
+{
+    let rank = (k % 8) as u32;
+    let mut w = at;
+    let mut i = 0;
+    while i < n {
+        if number::wide(places[i]) == k {
+            gave[i] = new[i];
+            w = put_slot(words, list, w, o.number, o.id, o.legs, rank, i, new[i]);
+            i += 1;
+        } else {
+            i += 1;
+        }
+    }
+    w
+}
+
+// The number x for a slot at place k, 0 for another.
+fn at_place(p: u32, k: u64, x: u32) -> u32
+    ensures { λ r. ⌜ r ≡ pick (eqb p k) x 0 ⌝ }
+{
+    if p as u64 == k { x } else { 0 }
+}
+
+// The units at place k, 0 for those elsewhere.
+fn gather(places: &[u32; 65], units: &[u32; 65], n: usize, k: u64, sizes: &mut [u32; 65])
+    requires { ⌜ (n ≤ 65) × (length (now places) ≡ 65) × (length (now units) ≡ 65) × (length (now sizes) ≡ 65) ⌝ }
+    ensures { λ _. ⌜ (length (now (sizes .exit)) ≡ 65) × (take n (now (sizes .exit)) ≡ sizesOf k (take n (now (places .entry))) (take n (now (units .entry)))) ⌝ }
+{
+    let mut i = 0;
+    while i < n {
+        sizes[i] = at_place(places[i], k, units[i]);
+        i += 1;
+    }
+}
+
+// Whether place k is of rank C or N.
+fn is_shared(k: u64) -> bool
+    ensures { λ r. ⌜ r ≡ isShared k ⌝ }
+{
+    let rank = k % 8;
+    if rank == Rank::C as u64 {
+        return true;
+    }
+    rank == Rank::N as u64
+}
+
+// "C and N are shared by size"; the others in turn.
+fn deal(sizes: &[u32; 65], n: usize, k: u64, amount: u32, shares: &mut [u32; 65])
+    requires { ⌜ (n ≤ 65) × (length (now sizes) ≡ 65) × (length (now shares) ≡ 65) ⌝ }
+    ensures { λ _. ⌜ (length (now (shares .exit)) ≡ 65) × (take n (now (shares .exit)) ≡ deal k amount (take n (now (sizes .entry)))) ⌝ }
+{
+    if is_shared(k) {
+        share::share(sizes, n, amount, shares);
+    } else {
+        share::in_turn(sizes, n, amount, shares);
+    }
+}
+
+// An amount below the total at place k, dealt to those there, and their records.
+fn give_part(
+    words: &[u32],
+    list: &mut [u64],
+    at: usize,
+    o: Order,
+    places: &[u32; 65],
+    units: &[u32; 65],
+    n: usize,
+    k: u64,
+    amount: u32,
+    gave: &mut [u32; 65],
+) -> usize
+    requires { ⌜ Slotted (now words) (now places) o n × (length (now units) ≡ 65) × (length (now gave) ≡ 65) ⌝ }
+    ensures { λ r. ⌜ (length (now (gave .exit)) ≡ 65)
+        × (take n (now (gave .exit)) ≡ over k (take n (now (places .entry))) (deal k amount (sizesOf k (take n (now (places .entry))) (take n (now (units .entry))))) (take n (now (gave .entry))))
+        × WritesAt k words list at r o places n gave ⌝ }
+{
+    let mut sizes = [0u32; 65];
+    let mut shares = [0u32; 65];
+    gather(places, units, n, k, &mut sizes);
+    deal(&sizes, n, k, amount, &mut shares);
+    give(words, list, at, o, places, n, k, &shares, gave)
+}
+
+// ---- a turn
+
+// How many records the list has after a turn, and the units that the order took.
+struct Taken {
+    pub count: usize,
+    pub units: u32,
+}
+
+// One order's turn over the offers in the first n slots, place by place while units are left.
+fn turn(
+    words: &[u32],
+    list: &mut [u64],
+    at: usize,
+    o: Order,
+    places: &[u32; 65],
+    units: &[u32; 65],
+    n: usize,
+    gave: &mut [u32; 65],
+) -> Taken
+    requires { ⌜ Slotted (now words) (now places) o n × (length (now units) ≡ 65) × Cleared (now gave) ⌝ }
+    ensures { λ r. ⌜ (length (now (gave .exit)) ≡ 65)
+        × ((longs : List ℕ) → Turned (o .number) (o .id) (o .units) (offersIn longs (now (words .entry)) (o .legs) (now (places .entry)) (now (units .entry)) n)
+        (take n (now (gave .exit))) (r .units) (now (list .entry)) at (now (list .exit)) (r .count)) ⌝ }
+{
+    let mut w = at;
+    let mut rest = number::wide(o.units);
+    let mut b: u64 = 0;
+    while 0 < rest {
+        let m = nearest(places, units, n, b);
+        if NONE <= m.number {
+            return Taken {
+                count: w,
+                units: o.units - (rest as u32),
+            };
+        }
+        if rest < m.units {
+            w = give_part(
+                words,
+                list,
+                w,
+                o,
+                places,
+                units,
+                n,
+                m.number,
+                rest as u32,
+                gave,
+            );
+            return Taken {
+                count: w,
+                units: o.units,
+            };
+        }
+        w = give(words, list, w, o, places, n, m.number, units, gave);
+        rest -= m.units;
+        b = m.number + 1;
+    }
+    Taken {
+        count: w,
+        units: o.units,
+    }
+}
+
+// ---- the order at a place of the book
+
+// The order at place k of the book, with the legs' price for it. The message that executes has taken its number: it is one below the next.
+fn order_at(longs: &[u64], words: &[u32], k: usize, legs: u64) -> Order
+    requires { ⌜ Sized (now longs) (now words) × (k < 64) ⌝ }
+    ensures { λ r. ⌜ r ≡ orderAt (now (longs .entry)) (now (words .entry)) k legs ⌝ }
+{
+    let number = number::one_below(longs[Clock::NEXT]);
+    Order {
+        number: number,
+        id: words[Book::IDS + k],
+        units: words[Book::UNITS + k],
+        legs: legs,
+    }
+}
+
+// Its turn over the legs and the book, where d is its derived contra price.
+fn open_turn(
+    longs: &[u64],
+    words: &[u32],
+    list: &mut [u64],
+    at: usize,
+    mode: u8,
+    k: usize,
+    d: Derived,
+    gave: &mut [u32; 65],
+) -> Taken
+    requires { ⌜ Sized (now longs) (now words) × (k < 64) × Cleared (now gave) × IsContra (now longs) (now words) k (derivedOf d) ⌝ }
+    ensures { λ r. ⌜ Turns (modeOf mode) longs words k gave (r .units) list at (r .count) ⌝ }
+{
+    let mut places = [0u32; 65];
+    let mut units = [0u32; 65];
+    let o = order_at(longs, words, k, d.price);
+    let n = offers::interest(longs, words, mode, k, d, &mut places, &mut units);
+    turn(words, list, at, o, &places, &units, n, gave)
+}
+
+// Its turn in the legs' pass, where only the legs are open to it.
+fn legs_turn(
+    longs: &[u64],
+    words: &[u32],
+    list: &mut [u64],
+    at: usize,
+    k: usize,
+    d: Derived,
+    gave: &mut [u32; 65],
+) -> Taken
+    requires { ⌜ Sized (now longs) (now words) × (k < 64) × Cleared (now gave) × IsContra (now longs) (now words) k (derivedOf d) ⌝ }
+    ensures { λ r. ⌜ Turns legsPass longs words k gave (r .units) list at (r .count) ⌝ }
+{
+    let o = order_at(longs, words, k, d.price);
+    let buy = state::is_set(words[Book::BUYS + k]);
+    let shown = offers::legs_units(buy, words[Book::PRICES + k], d);
+    let units = number::lesser(o.units, shown);
+    gave[0] = units;
+    let count = put_slot(words, list, at, o.number, o.id, o.legs, Rank::L, 0, units);
+    Taken {
+        count: count,
+        units: units,
+    }
+}
+
+// Its turn, as its mode says: what each slot gives, and its records.
+fn planned(
+    longs: &[u64],
+    words: &[u32],
+    list: &mut [u64],
+    at: usize,
+    mode: u8,
+    k: usize,
+    gave: &mut [u32; 65],
+) -> Taken
+    requires { ⌜ Sized (now longs) (now words) × (k < 64) × Cleared (now gave) ⌝ }
+    ensures { λ r. ⌜ Turns (modeOf mode) longs words k gave (r .units) list at (r .count) ⌝ }
+{
+    let buy = state::is_set(words[Book::BUYS + k]);
+    let d = quotes::derived(words, buy);
+    if mode < Mode::LEGS_PASS {
+        open_turn(longs, words, list, at, mode, k, d, gave)
+    } else {
+        legs_turn(longs, words, list, at, k, d, gave)
+    }
+}
+
+// "held orders become live"; a queue order stays in the queue until the auction's end.
+fn stage_after(mode: u8) -> u32
+    ensures { λ r. ⌜ stageOf r ≡ stageAfter (modeOf mode) ⌝ }
+{
+    if mode == Mode::FROM_QUEUE {
+        return Stage::QUEUED;
+    }
+    Stage::LIVE
+}
+
+// The state after it: the book settled, and the legs lowered.
+fn applied(longs: &mut [u64], words: &mut [u32], mode: u8, k: usize, gave: &[u32; 65], took: u32)
+    requires { ⌜ Sized (now longs) (now words) × (k < 64) × (length (now gave) ≡ 65) × Gives (modeOf mode) (now longs) (now words) k (now gave) took ⌝ }
+    ensures { λ _. ⌜ Becomes longs words (λ s. executed (modeOf mode) s (turnOf (modeOf mode) s (entryAt (now (longs .entry)) (now (words .entry)) k))) ⌝ }
+{
+    let buy = state::is_set(words[Book::BUYS + k]);
+    let id = words[Book::IDS + k];
+    changes::settle(longs, words, gave, id, took, stage_after(mode));
+    quotes::lower(words, buy, gave[0]);
+}
+
+// The turn of the order at place k, as its mode says: its records, and the state after it.
+pub fn execute(
+    longs: &mut [u64],
+    words: &mut [u32],
+    list: &mut [u64],
+    at: usize,
+    mode: u8,
+    k: usize,
+) -> usize
+    requires { ⌜ Sized (now longs) (now words) × (k < 64) ⌝ }
+    ensures { λ r. ⌜ Plays longs words list at r (λ s. executeIf true (modeOf mode) s (entryAt (now (longs .entry)) (now (words .entry)) k)) ⌝ }
+{
+    let mut gave = [0u32; 65];
+    let t = planned(longs, words, list, at, mode, k, &mut gave);
+    applied(longs, words, mode, k, &gave, t.units);
+    t.count
+}
+
+// ---- the orders under some ids
+
+// "queue orders execute"; "held orders become live .., each executing first"; "live orders at or through the derived contra price execute".
+fn is_ready(words: &[u32], mode: u8, k: usize) -> bool
+    requires { ⌜ WordsSized (now words) × (k < 64) ⌝ }
+    ensures { λ r. ⌜ ((longs : List ℕ) → r ≡ ready (modeOf mode) (stateOf longs (now (words .entry))) (entryAt longs (now (words .entry)) k)) ⌝ }
+{
+    let stage = words[Book::STAGES + k];
+    if mode == Mode::FROM_QUEUE {
+        return entries::is_queued(stage);
+    }
+    if mode == Mode::GOING_LIVE {
+        return entries::is_held(stage);
+    }
+    let buy = state::is_set(words[Book::BUYS + k]);
+    let limit = words[Book::PRICES + k];
+    let d = quotes::derived(words, buy);
+    let within = offers::is_within(buy, d.price, limit);
+    entries::is_live(stage) & ((0 < d.units) & within)
+}
+
+// The turn of the order under an id, if it is open and at that stage still.
+fn execute_id(
+    longs: &mut [u64],
+    words: &mut [u32],
+    list: &mut [u64],
+    at: usize,
+    mode: u8,
+    id: u32,
+) -> usize
+    requires { ⌜ Sized (now longs) (now words) ⌝ }
+    ensures { λ r. ⌜ Plays longs words list at r (execute (modeOf mode) id) ⌝ }
+{
+    let n = state::open_count(words);
+    let k = entries::find(words, id);
+    if n <= k {
+        return at;
+    }
+    if is_ready(words, mode, k) {
+        return execute(longs, words, list, at, mode, k);
+    }
+    at
+}
+
+// The turns of the orders under the first n ids, each from the state that the one before left.
+pub fn serve(
+    longs: &mut [u64],
+    words: &mut [u32],
+    list: &mut [u64],
+    at: usize,
+    mode: u8,
+    ids: &[u32; 64],
+    n: usize,
+) -> usize
+    requires { ⌜ Sized (now longs) (now words) × (n ≤ 64) × (length (now ids) ≡ 64) ⌝ }
+    ensures { λ r. ⌜ Plays longs words list at r (serve (modeOf mode) (take n (now (ids .entry)))) ⌝ }
+{
+    let mut w = at;
+    let mut i = 0;
+    while i < n {
+        w = execute_id(longs, words, list, w, mode, ids[i]);
+        i += 1;
+    }
+    w
+}
