@@ -20,7 +20,7 @@ pub serve-none : (m : Mode) (s : State) → serve m [] s ≡ still s
 unfolding serve
 serve-none m s = refl
 
-serve-both : (m : Mode) (is js : List ℕ) (s : State) → serve m (is ++ js) s ≡ then (serve m is s) (serve m js)
+pub serve-both : (m : Mode) (is js : List ℕ) (s : State) → serve m (is ++ js) s ≡ then (serve m is s) (serve m js)
 unfolding serve
 serve-both m [] js s = refl
 serve-both m (i ∷ is) js s =

@@ -1,6 +1,5 @@
 use borrow.Author.Needs.{needs}
 use lib.ListN.{take}
-use Rattle.rules.specs.Turn.{deal}
 use Rattle.turns.proofs.GrantLaws.{part-is}
 use Rattle.turns.proofs.give_part.Statement.{statement}
 use Rattle.turns.proofs.give_part.Tie as tie
