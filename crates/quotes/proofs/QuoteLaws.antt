@@ -5,8 +5,7 @@ use mathlib.Core.List.{List, [], _∷_}
 use Prim.Native.Nat.{ℕ, zero, suc, _+_, _-_, _*_, _≤_, _<_, min}
 use native.Mathlib.Omega.{arith}
 use borrow.Author.Count.{below-more}
-use lib.ListN.{length, getD, set, length-set}
-use Rattle.rules.specs.Basics.{All}
+use lib.ListN.{getD}
 use Rattle.rules.specs.Prices.{Quote, usesAsk, lowerQuote, lower}
 use Rattle.rules.specs.State.{withMarket}
 use Rattle.rules.specs.Step.{changed}
@@ -18,29 +17,12 @@ use Rattle.state.specs.Layout.{WordsSized}
 use Rattle.state.specs.View.{legAt, legCount, legsOf, quoteAt, marketOf, stateOf}
 use Rattle.state.specs.Stores.{Kept, Store, store, stores}
 use Rattle.state.proofs.TableLaws.{from-same}
-use Rattle.state.proofs.StoreLaws.{stores-other, stores-here, kept-all, kept-then}
+use Rattle.state.proofs.StoreLaws.{stores-other, rising-read, kept-all, kept-then}
 use Rattle.state.proofs.StateLaws.{market-alone}
 use Rattle.quotes.specs.Requoted.{Requoted}
 use Rattle.quotes.proofs.LegLaws.{legsFrom, quotesFrom, next-leg, no-leg}
 
 -- ---- one quote stored
-
--- stores at rising places, from a on and before b
-abbrev Rising : ℕ → ℕ → List Store → Type 0
-Rising a b [] = Unit {0}
-Rising a b (s ∷ ss) = (a ≤ s .at) × (s .at < b) × Rising (suc (s .at)) b ss
-
-rising-past : (a b i : ℕ) (ss : List Store) → i < a → Rising a b ss → All (λ s. i ≡ s .at → ⊥) ss
-rising-past a b i [] h r = tt
-rising-past a b i (s ∷ ss) h r = (λ e. omega (arith, r .0), rising-past (suc (s .at)) b i ss (omega (arith, r .0)) (r .2))
-
--- all of them are read back
-rising-read : (l : List ℕ) (a b : ℕ) (ss : List Store) → b ≤ length l → Rising a b ss → All (λ s. getD (stores l ss) (s .at) 0 ≡ s .number) ss
-rising-read l a b [] z r = tt
-rising-read l a b (s ∷ ss) z r = (
-  stores-here l s ss (omega (arith, r .1)) (rising-past (suc (s .at)) b (s .at) ss (omega arith) (r .2)),
-  rising-read (set l (s .at) (s .number)) (suc (s .at)) b ss (simp length-set z) (r .2),
-)
 
 -- the words of a quote, where they are stored
 abbrev pub quoteStores : ℕ → Held → List Store

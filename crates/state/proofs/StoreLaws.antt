@@ -1,7 +1,7 @@
 -- What stores, and a pass over one column, change and leave as it was.
 use mathlib.Core.Path.{_≡_, refl, _∙_}
 use mathlib.Core.List.{List, [], _∷_}
-use Prim.Native.Nat.{ℕ, _+_, _≤_, _<_}
+use Prim.Native.Nat.{ℕ, suc, _+_, _≤_, _<_}
 use native.Mathlib.Omega.{arith}
 use borrow.Author.Count.{below-more}
 use lib.ListN.{length, getD, set, length-set}
@@ -23,6 +23,31 @@ stores-here l s ss h o = stores-other (set l (s .at) (s .number)) ss (s .at) o �
 pub stores-length : (l : List ℕ) (ss : List Store) → length (stores l ss) ≡ length l
 stores-length l [] = refl
 stores-length l (s ∷ ss) = stores-length (set l (s .at) (s .number)) ss ∙ length-set l (s .at) (s .number)
+
+-- stores at rising places, from a on and before b
+abbrev pub Rising : ℕ → ℕ → List Store → Type 0
+Rising a b [] = Unit {0}
+Rising a b (s ∷ ss) = (a ≤ s .at) × (s .at < b) × Rising (suc (s .at)) b ss
+
+rising-past : (a b i : ℕ) (ss : List Store) → i < a → Rising a b ss → All (λ s. i ≡ s .at → ⊥) ss
+rising-past a b i [] h r = tt
+rising-past a b i (s ∷ ss) h r = (λ e. omega (arith, r .0), rising-past (suc (s .at)) b i ss (omega (arith, r .0)) (r .2))
+
+rising-short : (a b i : ℕ) (ss : List Store) → b ≤ i → Rising a b ss → All (λ s. i ≡ s .at → ⊥) ss
+rising-short a b i [] h r = tt
+rising-short a b i (s ∷ ss) h r = (λ e. omega (arith, r .1), rising-short (suc (s .at)) b i ss h (r .2))
+
+-- all of them are read back
+pub rising-read : (l : List ℕ) (a b : ℕ) (ss : List Store) → b ≤ length l → Rising a b ss → All (λ s. getD (stores l ss) (s .at) 0 ≡ s .number) ss
+rising-read l a b [] z r = tt
+rising-read l a b (s ∷ ss) z r = (
+  stores-here l s ss (omega (arith, r .1)) (rising-past (suc (s .at)) b (s .at) ss (omega arith) (r .2)),
+  rising-read (set l (s .at) (s .number)) (suc (s .at)) b ss (simp length-set z) (r .2),
+)
+
+-- outside these bounds all is as it was
+pub rising-kept : (l : List ℕ) (a b : ℕ) (ss : List Store) → Rising a b ss → Kept a b l (stores l ss)
+rising-kept l a b ss r = record { below = λ i h. stores-other l ss i (rising-past a b i ss h r); above = λ i h. stores-other l ss i (rising-short a b i ss h r) }
 
 -- ---- what is kept
 

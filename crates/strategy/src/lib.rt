@@ -191,7 +191,7 @@ fn good_count(count: usize) -> bool
 }
 
 // The number that turns an opening back, 0 for none: "First that applies, reading down".
-fn refusal(o: Strategy) -> u32
+pub fn refusal(o: Strategy) -> u32
     ensures { λ r. ⌜ r ≡ openingRefusal (openingOf o) ⌝ }
 {
     if !good_count(o.count) {

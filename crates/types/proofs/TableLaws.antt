@@ -1,9 +1,11 @@
 -- What is left of a table: its head, its end, its length, and one place more.
-use mathlib.Core.Path.{_≡_, refl, ap, _∙_}
-use mathlib.Core.List.{[], _∷_, _++_}
+use mathlib.Core.Path.{_≡_, refl, sym, ap, _∙_}
+use mathlib.Core.List.{List, [], _∷_, _++_}
 use Prim.Native.Nat.{ℕ, zero, suc, _+_, _-_, _≤_, _<_}
+use native.Mathlib.Numerals.{add-one}
 use native.Mathlib.Omega.{arith}
-use lib.ListN.{length}
+use lib.ListN.{length, getD, take}
+use lib.Seq.{take-suc}
 use Rattle.types.specs.View.{upto, from}
 
 module _ {A : Type 0} (f : ℕ → A) where
@@ -38,3 +40,10 @@ module _ {A : Type 0} (f : ℕ → A) where
       let p : n - 0 ≡ n = omega arith in
       let z : 0 + n ≡ n = omega arith in
       rw (q, p) (upto-last 0 n ∙ ap (λ (k : ℕ). upto f 0 n ++ (f k ∷ [])) z)
+
+-- the first of a list, place by place
+pub from-take : {A : Type 0} (d : A) (l : List A) (n : ℕ) → n ≤ length l → from (λ i. getD l i d) 0 n ≡ take n l
+from-take d l zero h = from-end (λ i. getD l i d) 0 0 (omega arith)
+from-take {A} d l (suc n) h =
+    ap (λ (k : ℕ). from (λ i. getD l i d) 0 k) (sym (add-one n)) ∙ from-last (λ i. getD l i d) n ∙ ap (λ (t : List A). t ++ (getD l n d ∷ [])) (from-take d l n (omega arith))
+    ∙ sym (take-suc l n d (omega arith))

@@ -1,0 +1,3 @@
+pub mod LegLaws
+pub mod StartLaws
+pub mod OpensLaws
