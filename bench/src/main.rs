@@ -3,9 +3,12 @@
 mod made;
 
 use made::Case;
-use second::engine::Outcome;
+use second::engine::{Engine, Outcome};
+use second::execution::{Fill, FillList};
 use second::gen::PROFILES;
 use second::print::{run_tape, tapeprint};
+use second::strategy::{Leg, Settings};
+use second::tape::{Record, Tape};
 use std::hint::black_box;
 use std::ops::Range;
 use std::process::ExitCode;
@@ -40,8 +43,8 @@ impl Times {
     }
 
     /// What all of the tapes take, each at its best.
-    fn sum<'a>(tracks: impl Iterator<Item = &'a Track>) -> Times {
-        let best = |track: &Track| track.rounds.iter().fold(Times::NEVER, |best, round| best.with(*round, f64::min));
+    fn sum<'a>(tracks: impl Iterator<Item = &'a Track>, rounds: fn(&Track) -> &[Times]) -> Times {
+        let best = |track: &Track| rounds(track).iter().fold(Times::NEVER, |best, round| best.with(*round, f64::min));
         tracks.fold(Times { proved: 0.0, plain: 0.0 }, |sum, track| sum.with(best(track), |a, b| a + b))
     }
 
@@ -63,6 +66,50 @@ struct Track {
     pending: bool,
     /// The best of each round.
     rounds: Vec<Times>,
+    /// The same, a record at a time without text.
+    steps: Vec<Times>,
+    script: Script,
+}
+
+/// A tape as a host sends it, a record at a time, and what it lends.
+struct Script {
+    head: Vec<u8>,
+    legs: Vec<Leg>,
+    settings: Settings,
+    records: Vec<u8>,
+    numbers: Box<tumghavi::FillList>,
+    list: Vec<Fill>,
+}
+
+impl Script {
+    /// A tape that is turned back has no records.
+    fn of(bytes: &[u8]) -> Script {
+        let tape = Tape::read(bytes).ok();
+        let head = tape.map(|tape| [tape.header_bytes(), tape.leg_bytes()].concat());
+        Script {
+            head: head.unwrap_or_default(),
+            legs: tape.map(|tape| tape.legs().collect()).unwrap_or_default(),
+            settings: tape.map(|tape| tape.header.settings).unwrap_or_default(),
+            records: tape.map(|tape| tape.record_bytes().to_vec()).unwrap_or_default(),
+            numbers: Box::new([0; 12_000]),
+            list: vec![Fill::BLANK; FillList::LEAST_PLACES],
+        }
+    }
+
+    /// How many fills the library gives.
+    fn run_library(&mut self) -> usize {
+        let Ok(mut engine) = tumghavi::Engine::open(&self.head) else { return 0 };
+        let records = self.records.chunks_exact(Record::BYTES);
+        records.map(|record| engine.answer(black_box(record), &mut self.numbers)).sum()
+    }
+
+    /// How many fills the second program gives.
+    fn run_plain(&mut self) -> usize {
+        let Ok(mut engine) = Engine::open(&self.legs, &self.settings) else { return 0 };
+        let records = self.records.chunks_exact(Record::BYTES);
+        let messages = records.filter_map(|record| Record::read(black_box(record)).message());
+        messages.map(|message| engine.apply(&message, &mut self.list).fill_count()).sum()
+    }
 }
 
 impl Track {
@@ -76,7 +123,8 @@ impl Track {
         });
         let pending = end.is_ok_and(|engine| engine.auction().is_some());
         let out = vec![0; expected.len() + 1];
-        Track { tape, expected, out, messages, fills, refused, pending, rounds: Vec::new() }
+        let (rounds, steps, script) = (Vec::new(), Vec::new(), Script::of(&tape));
+        Track { tape, expected, out, messages, fills, refused, pending, rounds, steps, script }
     }
 
     fn run_library(&mut self) -> usize {
@@ -85,27 +133,38 @@ impl Track {
 
     fn agrees(&mut self) -> bool {
         let written = self.run_library();
-        &self.out[..written] == self.expected.as_bytes()
+        let same = &self.out[..written] == self.expected.as_bytes();
+        same && [self.script.run_library(), self.script.run_plain()] == [self.fills; 2]
     }
 
     fn time_proved(&mut self, round: usize) {
-        let start = Instant::now();
-        black_box(self.run_library());
-        let best = &mut self.rounds[round].proved;
-        *best = best.min(start.elapsed().as_nanos() as f64);
+        let tape = elapsed(|| black_box(self.run_library()));
+        self.rounds[round].proved = tape.min(self.rounds[round].proved);
+        let steps = elapsed(|| black_box(self.script.run_library()));
+        self.steps[round].proved = steps.min(self.steps[round].proved);
     }
 
     fn time_plain(&mut self, round: usize) {
-        let start = Instant::now();
-        black_box(tapeprint(black_box(&self.tape)));
-        let best = &mut self.rounds[round].plain;
-        *best = best.min(start.elapsed().as_nanos() as f64);
+        let tape = elapsed(|| black_box(tapeprint(black_box(&self.tape))).len());
+        self.rounds[round].plain = tape.min(self.rounds[round].plain);
+        let steps = elapsed(|| black_box(self.script.run_plain()));
+        self.steps[round].plain = steps.min(self.steps[round].plain);
     }
+}
+
+/// How many nanoseconds something takes.
+fn elapsed(run: impl FnOnce() -> usize) -> f64 {
+    let start = Instant::now();
+    black_box(run());
+    start.elapsed().as_nanos() as f64
 }
 
 /// One engine on all of the tapes, then the other: one tape again and again is what a processor learns by heart.
 fn time(tracks: &mut [Track], round: usize) {
-    tracks.iter_mut().for_each(|track| track.rounds.push(Times::NEVER));
+    for track in tracks.iter_mut() {
+        track.rounds.push(Times::NEVER);
+        track.steps.push(Times::NEVER);
+    }
     (0..RUNS).for_each(|_| tracks.iter_mut().for_each(|track| track.time_proved(round)));
     (0..RUNS).for_each(|_| tracks.iter_mut().for_each(|track| track.time_plain(round)));
 }
@@ -204,27 +263,35 @@ impl Bench {
     fn print(&self) {
         let (turned_back, others): (Vec<&Group>, Vec<&Group>) = self.groups.iter().partition(|g| g.turned_back());
         println!("## By profile\n");
-        println!(
-            "| Profile | Messages | Fills | Proved, messages/s | Plain, messages/s | Proved, ns | Plain, ns | Ratio |"
-        );
-        println!("|---|--:|--:|--:|--:|--:|--:|--:|");
-        others.iter().for_each(|group| print_profile(group.name, group.tracks.iter()));
-        print_profile("all of these", others.iter().flat_map(|group| &group.tracks));
+        print_profiles(&others, |track| &track.rounds);
         println!("\nTapes of which most are turned back before their first message:\n");
         println!("| Profile | Tapes | Proved, ns a tape | Plain, ns a tape | Ratio |\n|---|--:|--:|--:|--:|");
         for Group { name, tracks } in turned_back {
-            let times = Times::sum(tracks.iter()).per(tracks.len());
+            let times = Times::sum(tracks.iter(), |track| &track.rounds).per(tracks.len());
             let Times { proved, plain } = times;
             println!("| {name} | {} | {proved:.0} | {plain:.0} | {:.1} |", tracks.len(), times.ratio());
         }
+        println!("\n## A record at a time, without text\n");
+        print_profiles(&others, |track| &track.steps);
         self.pairs.chunk_by(|a, b| a.case.table == b.case.table).for_each(print_pairs);
     }
 }
 
-fn print_profile<'a>(name: &str, tracks: impl Iterator<Item = &'a Track> + Clone) {
+fn print_profiles(groups: &[&Group], rounds: fn(&Track) -> &[Times]) {
+    println!("| Profile | Messages | Fills | Proved, messages/s | Plain, messages/s | Proved, ns | Plain, ns | Ratio |");
+    println!("|---|--:|--:|--:|--:|--:|--:|--:|");
+    groups.iter().for_each(|group| print_profile(group.name, group.tracks.iter(), rounds));
+    print_profile("all of these", groups.iter().flat_map(|group| &group.tracks), rounds);
+}
+
+fn print_profile<'a>(
+    name: &str,
+    tracks: impl Iterator<Item = &'a Track> + Clone,
+    rounds: fn(&Track) -> &[Times],
+) {
     let messages = tracks.clone().map(|track| track.messages).sum();
     let fills: usize = tracks.clone().map(|track| track.fills).sum();
-    let times = Times::sum(tracks).per(messages);
+    let times = Times::sum(tracks, rounds).per(messages);
     let Times { proved, plain } = times;
     let speeds = format!("{:.0} | {:.0}", 1e9 / proved, 1e9 / plain);
     println!("| {name} | {messages} | {fills} | {speeds} | {proved:.0} | {plain:.0} | {:.1} |", times.ratio());

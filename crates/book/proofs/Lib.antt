@@ -1,4 +1,8 @@
-pub mod PutLaws
-pub mod PassLaws
-pub mod KeepLaws
-pub mod SettleLaws
+pub mod StageLaws
+pub mod StoreLaws
+pub mod ScanLaws
+mod PlaceLaws
+mod PassLaws
+mod BookLaws
+mod SettleLaws
+mod CloseLaws

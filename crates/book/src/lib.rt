@@ -1,74 +1,112 @@
-// What changes a book. Each function takes it by value, and says what the rules say of the open entries.
-use types::Book;
-use types::Entry;
+// The open orders and responses: what is asked of them. Each question is a scan of the book's columns in the lent words.
+use state::Book;
+use state::Entry;
+use state::Stage;
 ghost use mathlib.Core.Path.{_≡_};
-ghost use mathlib.Core.Bool.{true, false, not};
-ghost use Prim.Native.Nat.{ℕ, _+_, _-_, _<_, _≤_, min};
-ghost use lib.Dec.{eqb};
-ghost use lib.ListN.{length, drop, getD};
+ghost use mathlib.Core.Bool.{true, _&&_, _||_, not};
+ghost use mathlib.Core.List.{List};
+ghost use Prim.Native.Nat.{ℕ, _<_, _≤_};
+ghost use lib.Dec.{eqb, ltb};
 ghost use Rattle.rules.specs.Basics.{pick};
-ghost use Rattle.rules.specs.Book.{isResponse, added, without, expired, released, releasedAll};
-ghost use Rattle.rules.specs.Execution.{settled};
-ghost use Rattle.types.specs.View.{stageOf, entryOf, entryAt, entriesOf};
-ghost use Rattle.book.specs.Kept.{KeptBy};
+ghost use Rattle.rules.specs.Filter.{beyond};
+ghost use Rattle.rules.specs.Book.{Entry as Open, nobody, found, find, unitsOf, any, count, unitsIf, sameSide, better, isHeld, isLive, isQueued, isResponse};
+ghost use Rattle.rules.specs.Refusals.{isOrder, isOpen, ofParticipant};
+ghost use Rattle.rules.specs.Auction.{inFront, initiator, beatsFound};
+ghost use Rattle.types.specs.View.{stageOf};
+ghost use Rattle.state.specs.Layout.{WordsSized, Sized};
+ghost use Rattle.state.specs.View.{flag, entryOf, entryAt, openCount, entriesOf};
+ghost use Rattle.state.specs.Lent.{Tells, TellsBoth};
+ghost use Rattle.book.specs.Questions.{isNearLive, frontOf};
 
-// The entry at a place; past the last place all is 0.
-pub fn entry_at(b: Book, k: usize) -> Entry
-    ensures { λ r. ⌜ entryOf r ≡ entryAt b k ⌝ }
+mod changes;
+mod ids;
+
+pub use changes::append;
+pub use changes::close;
+pub use changes::remove;
+pub use changes::settle;
+pub use ids::any_held;
+pub use ids::held_ids;
+pub use ids::live_ids;
+pub use ids::queue_ids;
+
+// ---- one entry
+
+// A held order.
+pub fn is_held(stage: u32) -> bool
+    ensures { λ r. ⌜ r ≡ isHeld (stageOf stage) ⌝ }
 {
-    if k < Book::MOST_ENTRIES {
-        return Entry {
-            arrival: b.arrivals[k],
-            id: b.ids[k],
-            participant: b.participants[k],
-            price: b.prices[k],
-            units: b.units[k],
-            buy: b.buys[k],
-            customer: b.customers[k],
-            stage: b.stages[k],
-        };
-    }
-    Entry {
-        arrival: 0,
-        id: 0,
-        participant: 0,
-        price: 0,
-        units: 0,
-        buy: false,
-        customer: false,
-        stage: Entry::HELD,
-    }
+    stage == Stage::HELD
 }
 
-// A new entry is the last to have arrived; a full book stays as it is.
-pub fn append(b: Book, e: Entry) -> Book
-    ensures { λ r. ⌜ entriesOf r ≡ added (entriesOf b) (entryOf e) ⌝ }
+// A live order.
+pub fn is_live(stage: u32) -> bool
+    ensures { λ r. ⌜ r ≡ isLive (stageOf stage) ⌝ }
 {
-    let n = b.count;
-    if n < Book::MOST_ENTRIES {
-        let mut r = b;
-        r.arrivals[n] = e.arrival;
-        r.ids[n] = e.id;
-        r.participants[n] = e.participant;
-        r.prices[n] = e.price;
-        r.units[n] = e.units;
-        r.buys[n] = e.buy;
-        r.customers[n] = e.customer;
-        r.stages[n] = e.stage;
-        r.count = n + 1;
-        return r;
-    }
-    b
+    stage == Stage::LIVE
 }
 
-// How many entries stand before the first that leaves.
-fn staying(keep: &[bool; 64], n: usize) -> usize
-    ensures { λ r. ⌜ (r ≤ min n 64) × ((i : ℕ) → i < r → getD (now (keep .entry)) i false ≡ true) ⌝ }
+// An order in the auction queue.
+pub fn is_queued(stage: u32) -> bool
+    ensures { λ r. ⌜ r ≡ isQueued (stageOf stage) ⌝ }
 {
-    let m = scan::shown(n);
+    stage == Stage::QUEUED
+}
+
+// A response, and no order.
+pub fn is_response(stage: u32) -> bool
+    ensures { λ r. ⌜ r ≡ isResponse (stageOf stage) ⌝ }
+{
+    Stage::QUEUED < stage
+}
+
+// "Same side".
+pub fn same_side(a: bool, b: bool) -> bool
+    ensures { λ r. ⌜ r ≡ sameSide a b ⌝ }
+{
+    if a { b } else { !b }
+}
+
+// Limit p is strictly better than q: higher for a buyer, lower for a seller.
+fn is_better(buy: bool, p: u64, q: u64) -> bool
+    ensures { λ r. ⌜ r ≡ better buy p q ⌝ }
+{
+    if buy { q < p } else { p < q }
+}
+
+// 1 where a test holds.
+pub fn one_if(b: bool) -> usize
+    ensures { λ r. ⌜ (r ≡ pick b 1 0) × (r ≤ 1) ⌝ }
+{
+    if b { 1 } else { 0 }
+}
+
+// ---- under an id
+
+// "id open as order or response".
+pub fn is_open(words: &[u32], id: u32) -> bool
+    requires { ⌜ WordsSized (now words) ⌝ }
+    ensures { λ r. ⌜ Tells words (λ s. r ≡ isOpen id s) ⌝ }
+{
+    let m = state::open_count(words);
+    let mut seen = false;
     let mut k = 0;
     while k < m {
-        if !keep[k] {
+        seen = seen | (words[Book::IDS + k] == id);
+        k += 1;
+    }
+    seen
+}
+
+// The place of the entry under an id; the number of entries where there is none.
+pub fn find(words: &[u32], id: u32) -> usize
+    requires { ⌜ WordsSized (now words) ⌝ }
+    ensures { λ r. ⌜ (r ≤ openCount (now (words .entry))) × ((longs : List ℕ) → find id (entriesOf longs (now (words .entry))) ≡ pick (ltb r (openCount (now (words .entry)))) (found (entryAt longs (now (words .entry)) r)) nobody) ⌝ }
+{
+    let m = state::open_count(words);
+    let mut k = 0;
+    while k < m {
+        if words[Book::IDS + k] == id {
             return k;
         }
         k += 1;
@@ -76,170 +114,289 @@ fn staying(keep: &[bool; 64], n: usize) -> usize
     k
 }
 
-// The entries whose flag is set.
-fn compact(b: Book, keep: &[bool; 64]) -> Book
-    ensures { λ r. ⌜ KeptBy (now (keep .entry)) (entryAt b) (b .count) (entriesOf r) ⌝ }
+// The open units under an id, 0 where there is none.
+pub fn units_of(words: &[u32], id: u32) -> u32
+    requires { ⌜ WordsSized (now words) ⌝ }
+    ensures { λ r. ⌜ Tells words (λ s. r ≡ unitsOf (find id (s .book))) ⌝ }
 {
-    let n = b.count;
-    let m = scan::shown(n);
-    let mut r = b;
-    let mut w = staying(keep, n);
-    let mut k = w;
-    while k < m {
-        r.arrivals[w] = b.arrivals[k];
-        r.ids[w] = b.ids[k];
-        r.participants[w] = b.participants[k];
-        r.prices[w] = b.prices[k];
-        r.units[w] = b.units[k];
-        r.buys[w] = b.buys[k];
-        r.customers[w] = b.customers[k];
-        r.stages[w] = b.stages[k];
-        w += scan::one_if(keep[k]);
-        k += 1;
-    }
-    r.count = w;
-    r
+    let m = state::open_count(words);
+    let k = find(words, id);
+    if k < m { words[Book::UNITS + k] } else { 0 }
 }
 
-// Which numbers of a column are not x.
-fn others(column: &[u32; 64], n: usize, x: u32) -> [bool; 64]
-    ensures { λ r. ⌜ ((i : ℕ) → i < min n 64 → getD r i false ≡ not (eqb (getD (now (column .entry)) i 0) x)) ⌝ }
+// The entry at a place of the book.
+fn entry_at(longs: &[u64], words: &[u32], k: usize) -> Entry
+    requires { ⌜ Sized (now longs) (now words) × (k < 64) ⌝ }
+    ensures { λ r. ⌜ entryOf r ≡ entryAt (now (longs .entry)) (now (words .entry)) k ⌝ }
 {
-    let m = scan::shown(n);
-    let mut keep = [false; 64];
+    Entry {
+        arrival: longs[Book::ARRIVALS + k],
+        id: words[Book::IDS + k],
+        participant: words[Book::PARTICIPANTS + k],
+        price: words[Book::PRICES + k],
+        units: words[Book::UNITS + k],
+        buy: words[Book::BUYS + k],
+        customer: words[Book::CUSTOMERS + k],
+        stage: words[Book::STAGES + k],
+    }
+}
+
+// What stands under an id: whether there is an entry, and the entry.
+pub struct Sought {
+    pub there: bool,
+    pub entry: Entry,
+}
+
+// The entry under an id, one of zeros where there is none.
+pub fn entry_under(longs: &[u64], words: &[u32], id: u32) -> Sought
+    requires { ⌜ Sized (now longs) (now words) ⌝ }
+    ensures { λ r. ⌜ TellsBoth longs words (λ s. find id (s .book) ≡ pick (r .there) (found (entryOf (r .entry))) nobody) ⌝ }
+{
+    let m = state::open_count(words);
+    let k = find(words, id);
+    if k < m {
+        return Sought {
+            there: true,
+            entry: entry_at(longs, words, k),
+        };
+    }
+    Sought {
+        there: false,
+        entry: Entry {
+            arrival: 0,
+            id: 0,
+            participant: 0,
+            price: 0,
+            units: 0,
+            buy: 0,
+            customer: 0,
+            stage: 0,
+        },
+    }
+}
+
+// What stands under an id and a participant.
+pub struct Standing {
+    pub order: bool,
+    pub queued: bool,
+    pub response: bool,
+}
+
+// "of that id and participant".
+fn is_of(a: u32, b: u32, id: u32, participant: u32) -> bool
+    ensures { λ r. ⌜ r ≡ (eqb a id && eqb b participant) ⌝ }
+{
+    (a == id) & (b == participant)
+}
+
+// What is known so far, with one entry more: its stage, and whether it is of that id and participant.
+fn noted(s: Standing, stage: u32, own: bool) -> Standing
+    ensures { λ r. ⌜ (r .order ≡ (s .order || (not (isResponse (stageOf stage)) && own))) × (r .queued ≡ (s .queued || (isQueued (stageOf stage) && own))) × (r .response ≡ (s .response || (isResponse (stageOf stage) && own))) ⌝ }
+{
+    let response = is_response(stage);
+    Standing {
+        order: s.order | (!response & own),
+        queued: s.queued | (is_queued(stage) & own),
+        response: s.response | (response & own),
+    }
+}
+
+// "no open order of that id and participant", "in the queue", "no response of that id and participant".
+pub fn standing_of(words: &[u32], id: u32, participant: u32) -> Standing
+    requires { ⌜ WordsSized (now words) ⌝ }
+    ensures { λ r. ⌜ Tells words (λ s. (r .order ≡ any (λ e. isOrder e && ofParticipant id participant e) (s .book)) × (r .queued ≡ any (λ e. isQueued (e .stage) && ofParticipant id participant e) (s .book)) × (r .response ≡ any (λ e. isResponse (e .stage) && ofParticipant id participant e) (s .book))) ⌝ }
+{
+    let m = state::open_count(words);
+    let mut s = Standing {
+        order: false,
+        queued: false,
+        response: false,
+    };
     let mut k = 0;
     while k < m {
-        keep[k] = column[k] != x;
+        let own = is_of(
+            words[Book::IDS + k],
+            words[Book::PARTICIPANTS + k],
+            id,
+            participant,
+        );
+        s = noted(s, words[Book::STAGES + k], own);
         k += 1;
     }
-    keep
+    s
 }
 
-// "Ids are free again once their entry is .. cancelled".
-pub fn removed(b: Book, id: u32) -> Book
-    ensures { λ r. ⌜ entriesOf r ≡ without id (entriesOf b) ⌝ }
-{
-    let n = b.count;
-    let keep = others(&b.ids, n, id);
-    compact(b, &keep)
+// ---- how many, how much
+
+// How many orders and how many responses are open.
+pub struct Counts {
+    pub orders: usize,
+    pub responses: usize,
 }
 
-// Which entries are orders.
-fn orders(stages: &[u8; 64], n: usize) -> [bool; 64]
-    ensures { λ r. ⌜ ((i : ℕ) → i < min n 64 → getD r i false ≡ not (isResponse (stageOf (getD (now (stages .entry)) i 0)))) ⌝ }
+// "32 orders open", "43 new: 32 open".
+pub fn open_counts(words: &[u32]) -> Counts
+    requires { ⌜ WordsSized (now words) ⌝ }
+    ensures { λ r. ⌜ Tells words (λ s. (r .orders ≡ count isOrder (s .book)) × (r .responses ≡ count (λ e. isResponse (e .stage)) (s .book))) ⌝ }
 {
-    let m = scan::shown(n);
-    let mut keep = [false; 64];
+    let m = state::open_count(words);
+    let mut responses = 0;
     let mut k = 0;
     while k < m {
-        keep[k] = !scan::is_response(stages[k]);
+        responses += one_if(is_response(words[Book::STAGES + k]));
         k += 1;
     }
-    keep
+    Counts {
+        orders: m - responses,
+        responses,
+    }
 }
 
-// "remainders are held".
-fn released_stage(stage: u8) -> u8
-    ensures { λ r. ⌜ stageOf r ≡ released (stageOf stage) ⌝ }
+// The units of an entry in the queue, 0 of any other.
+fn units_queued(stage: u32, units: u32) -> u64
+    ensures { λ r. ⌜ (r ≡ pick (isQueued (stageOf stage)) units 0) × (r ≤ 4294967295) ⌝ }
 {
-    if stage == Entry::QUEUED {
-        Entry::HELD
+    if is_queued(stage) { units as u64 } else { 0 }
+}
+
+// "Joined (units in the queue)".
+pub fn queue_units(words: &[u32]) -> u64
+    requires { ⌜ WordsSized (now words) ⌝ }
+    ensures { λ r. ⌜ Tells words (λ s. r ≡ unitsIf (λ e. isQueued (e .stage)) (s .book)) ⌝ }
+{
+    let m = state::open_count(words);
+    let mut sum: u64 = 0;
+    let mut k = 0;
+    while k < m {
+        sum += units_queued(words[Book::STAGES + k], words[Book::UNITS + k]);
+        k += 1;
+    }
+    sum
+}
+
+// ---- eligibility
+
+// An open order outside the queue, on that side, that the limit is not strictly better than.
+fn is_standing(stage: u32, side: u32, limit: u32, buy: bool, price: u32) -> bool
+    ensures { λ r. ⌜ r ≡ ((isHeld (stageOf stage) || isLive (stageOf stage)) && sameSide buy (flag side) && not (better buy price limit)) ⌝ }
+{
+    (is_held(stage) | is_live(stage))
+        & same_side(buy, state::is_set(side))
+        & !is_better(buy, price as u64, limit as u64)
+}
+
+// "its limit is strictly better than every other open same-side order outside the queue".
+pub fn in_front(words: &[u32], buy: bool, price: u32) -> bool
+    requires { ⌜ WordsSized (now words) ⌝ }
+    ensures { λ r. ⌜ Tells words (λ s. (o : Open) → o .buy ≡ buy → o .price ≡ price → r ≡ inFront s o) ⌝ }
+{
+    let m = state::open_count(words);
+    let mut seen = false;
+    let mut k = 0;
+    while k < m {
+        seen = seen
+            | is_standing(
+                words[Book::STAGES + k],
+                words[Book::BUYS + k],
+                words[Book::PRICES + k],
+                buy,
+                price,
+            );
+        k += 1;
+    }
+    !seen
+}
+
+// Price p is beyond q by more than n: above it for a buyer, below it for a seller.
+fn is_beyond(buy: bool, n: u32, p: u32, q: u32) -> bool
+    ensures { λ r. ⌜ r ≡ beyond buy n p q ⌝ }
+{
+    if buy {
+        (q as u64) + (n as u64) < (p as u64)
     } else {
-        stage
+        (p as u64) + (n as u64) < (q as u64)
     }
 }
 
-// "remainders are held", in the whole column.
-fn release(stages: &mut [u8; 64], n: usize)
-    requires { ⌜ length (now stages) ≡ 64 ⌝ }
-    ensures { λ _. ⌜ ((i : ℕ) → i < min n 64 → stageOf (getD (now (stages .exit)) i 0) ≡ released (stageOf (getD (now (stages .entry)) i 0))) ⌝ }
+// A live order on the other side that the limit reaches or misses by at most the distance.
+fn is_near_live(stage: u32, side: u32, p: u32, buy: bool, price: u32, distance: u32) -> bool
+    ensures { λ r. ⌜ r ≡ (isLive (stageOf stage) && not (sameSide buy (flag side)) && not (beyond (not buy) distance price p)) ⌝ }
 {
-    let m = scan::shown(n);
+    is_live(stage) & !same_side(buy, state::is_set(side)) & !is_beyond(!buy, distance, price, p)
+}
+
+// "a best contra price (.. live order) exists that the limit reaches or misses by at most the class distance".
+pub fn near_live(words: &[u32], buy: bool, price: u32, distance: u32) -> bool
+    requires { ⌜ WordsSized (now words) ⌝ }
+    ensures { λ r. ⌜ Tells words (λ s. r ≡ any (isNearLive buy price distance) (s .book)) ⌝ }
+{
+    let m = state::open_count(words);
+    let mut seen = false;
     let mut k = 0;
     while k < m {
-        stages[k] = released_stage(stages[k]);
+        seen = seen
+            | is_near_live(
+                words[Book::STAGES + k],
+                words[Book::BUYS + k],
+                words[Book::PRICES + k],
+                buy,
+                price,
+                distance,
+            );
         k += 1;
     }
+    seen
 }
 
-// "remainders are held; all responses expire".
-pub fn closed(b: Book) -> Book
-    ensures { λ r. ⌜ entriesOf r ≡ releasedAll (expired (entriesOf b)) ⌝ }
-{
-    let n = b.count;
-    let keep = orders(&b.stages, n);
-    let mut r = compact(b, &keep);
-    let m = r.count;
-    release(&mut r.stages, m);
-    r
+// ---- the initiator
+
+// The first of a queue: whether there is one, its side and its limit.
+struct Front {
+    there: bool,
+    buy: bool,
+    price: u32,
 }
 
-// A number less another, not below 0.
-fn less(a: u32, b: u32) -> u32
-    ensures { λ r. ⌜ r ≡ a - b ⌝ }
+// The first, with an entry more before all others: it is ahead unless the first is strictly better.
+fn put_front(a: Front, side: u32, price: u32) -> Front
+    ensures { λ r. ⌜ r ≡ pick (a .there && better (a .buy) (a .price) price) a (record { there = true; buy = flag side; price = price }) ⌝ }
 {
-    if b <= a { a - b } else { 0 }
-}
-
-// The units of an entry after a turn: of the order itself less what it took, of another less what it gave.
-fn units_after(own: bool, units: u32, took: u32, gave: u32) -> u32
-    ensures { λ r. ⌜ r ≡ units - pick own took gave ⌝ }
-{
-    if own {
-        less(units, took)
-    } else {
-        less(units, gave)
+    let buy = state::is_set(side);
+    if a.there & is_better(a.buy, a.price as u64, price as u64) {
+        return a;
+    }
+    Front {
+        there: true,
+        buy,
+        price,
     }
 }
 
-// The units after a turn, in the whole column; what the entry at place k gave stands at k + 1.
-fn spend<'a>(
-    units: &mut [u32; 64],
-    ids: &'a [u32; 64],
-    gave: &'a [u32; 65],
-    n: usize,
-    id: u32,
-    took: u32,
-)
-    requires { ⌜ length (now units) ≡ 64 ⌝ }
-    ensures { λ _. ⌜ ((i : ℕ) → i < min n 64 → getD (now (units .exit)) i 0 ≡ getD (now (units .entry)) i 0 - pick (eqb (getD (now (ids .entry)) i 0) id) took (getD (now (gave .entry)) (i + 1) 0)) ⌝ }
+// The first of the queue, "by price, then arrival".
+fn first_queued(words: &[u32]) -> Front
+    requires { ⌜ WordsSized (now words) ⌝ }
+    ensures { λ r. ⌜ Tells words (λ s. r ≡ frontOf (initiator s)) ⌝ }
 {
-    let m = scan::shown(n);
-    let mut k = 0;
-    while k < m {
-        units[k] = units_after(ids[k] == id, units[k], took, gave[k + 1]);
-        k += 1;
+    let mut a = Front {
+        there: false,
+        buy: false,
+        price: 0,
+    };
+    let mut k = state::open_count(words);
+    while 0 < k {
+        k -= 1;
+        if is_queued(words[Book::STAGES + k]) {
+            a = put_front(a, words[Book::BUYS + k], words[Book::PRICES + k]);
+        }
     }
+    a
 }
 
-// The stage of an entry after a turn: the order's own changes.
-fn stage_after(own: bool, stage: u8, after: u8) -> u8
-    ensures { λ r. ⌜ r ≡ pick own after stage ⌝ }
+// "Same side, better than the initiator's limit".
+pub fn beats(words: &[u32], buy: bool, price: u64) -> bool
+    requires { ⌜ WordsSized (now words) ⌝ }
+    ensures { λ r. ⌜ Tells words (λ s. r ≡ beatsFound buy price (initiator s)) ⌝ }
 {
-    if own { after } else { stage }
-}
-
-// The stages after a turn, in the whole column.
-fn restage(stages: &mut [u8; 64], ids: &[u32; 64], n: usize, id: u32, stage: u8)
-    requires { ⌜ length (now stages) ≡ 64 ⌝ }
-    ensures { λ _. ⌜ ((i : ℕ) → i < min n 64 → getD (now (stages .exit)) i 0 ≡ pick (eqb (getD (now (ids .entry)) i 0) id) stage (getD (now (stages .entry)) i 0)) ⌝ }
-{
-    let m = scan::shown(n);
-    let mut k = 0;
-    while k < m {
-        stages[k] = stage_after(ids[k] == id, stages[k], stage);
-        k += 1;
-    }
-}
-
-// The book after the turn of an order: each entry less what it gave, the order less what it took and at its new stage, and none that is filled.
-pub fn settled(b: Book, gave: &[u32; 65], id: u32, took: u32, stage: u8) -> Book
-    ensures { λ r. ⌜ entriesOf r ≡ settled id took (stageOf stage) (entriesOf b) (drop 1 (now (gave .entry))) ⌝ }
-{
-    let n = b.count;
-    let mut r = b;
-    spend(&mut r.units, &b.ids, gave, n, id, took);
-    restage(&mut r.stages, &b.ids, n, id, stage);
-    let keep = others(&r.units, n, 0);
-    compact(r, &keep)
+    let a = first_queued(words);
+    a.there & is_better(buy, price, a.price as u64)
 }

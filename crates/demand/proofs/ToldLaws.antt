@@ -3,32 +3,31 @@ use mathlib.Core.Path.{_≡_, refl, ap, ap₂, sym, _∙_}
 use mathlib.Core.Bool.{Bool, true, false}
 use mathlib.Core.List.{List, [], _∷_, _++_, map}
 use Prim.Native.Nat.{ℕ}
+use native.Mathlib.Omega.{arith}
 use lib.Dec.{eqb}
 use lib.ListN.{length, take, drop}
 use Rattle.rules.specs.Basics.{pick}
-use Rattle.rules.specs.Outcome as O
 use Rattle.rules.specs.Turn as U
 use Rattle.rules.specs.Messages.{Body, local, national, order, response, modify, cancel, clock, Message}
-use Rattle.rules.specs.State.{State as Shown, taken}
+use Rattle.rules.specs.State.{State, taken}
 use Rattle.rules.specs.Refusals.{refusal}
 use Rattle.rules.specs.Step.{Act, goesOn, begins, joining, ends, takeIn, follow, answered, plain, recordsOf, acted, accepted, turnedBack, step}
-use Rattle.rules.specs.Strategy.{openingRefusal}
-use Rattle.rules.specs.Run.{refusedOpening, started, startOf, opening, answers}
-use Rattle.rules.specs.Run.{Opened as Opened′}
+use Rattle.rules.specs.Strategy as S
+use Rattle.rules.specs.Run.{started, opening, answerTo, answers}
 use Rattle.rules.specs.Demand.{Demand3OfRules}
-use Rattle.rules.proofs.RunLaws.{demand-3-of-rules}
-use Rattle.types.specs.declared.State.{State}
-use Rattle.types.specs.declared.Opened.{Opened}
-use Rattle.types.specs.declared.Strategy.{Strategy}
+use Rattle.rules.proofs.RunLaws.{opened, demand-3-of-rules}
 use Rattle.types.specs.declared.Fill.{Fill}
-use Rattle.types.specs.View.{openingOf, stateOf, messageOf, rankOf, contraOf, fillOf, outcomeOf}
-use Rattle.strategy.specs.Opening.{IsOpened}
+use Rattle.types.specs.View.{openingOf, messageOf, rankOf, contraOf, fillOf}
+use Rattle.state.specs.Layout.{isSized}
+use Rattle.state.specs.View.{stateOf}
+use Rattle.opening.specs.Opens.{openedBy, Opens}
+use Rattle.engine.specs.Steps.{recordsIn, placesIn}
 use Rattle.fills.specs.Fills.{heldRank, heldContra, heldFill, written}
-use Rattle.demand.specs.Engine.{Applied, Run, over, then, sents, fillCount, told, Demand3}
+use Rattle.demand.specs.Engine.{Stepped, Applied, Taken, byStep, byApply, longsAfter, wordsAfter, sentOf, fillCount, toldBy, Run, over, then, sents, told, Demand3}
 
 -- ---- the fill count of an outcome is the number of its records
 
-plain-count : (b : Body) (s : Shown) (n : ℕ) → fillCount (plain b s n) ≡ n
+plain-count : (b : Body) (s : State) (n : ℕ) → fillCount (plain b s n) ≡ n
 plain-count (local q) s n = refl
 plain-count (national q) s n = refl
 plain-count (order t w) s n = refl
@@ -37,14 +36,14 @@ plain-count (modify c) s n = refl
 plain-count (cancel i p) s n = refl
 plain-count clock s n = refl
 
-answered-count : (b : Body) (s : Shown) (a : Act) → fillCount (answered b a (follow s a) .outcome) ≡ length (answered b a (follow s a) .fills)
+answered-count : (b : Body) (s : State) (a : Act) → fillCount (answered b a (follow s a) .outcome) ≡ length (answered b a (follow s a) .fills)
 unfolding recordsOf
 answered-count b s goesOn = plain-count b (follow s goesOn .state) (length (recordsOf (follow s goesOn .turns)))
 answered-count b s begins = refl
 answered-count b s joining = refl
 answered-count b s (ends c) = refl
 
-step-count : (s : Shown) (m : Message) (room : ℕ) → fillCount (step s m room .outcome) ≡ length (step s m room .fills)
+step-count : (s : State) (m : Message) (room : ℕ) → fillCount (step s m room .outcome) ≡ length (step s m room .fills)
 unfolding step accepted acted
 step-count s m room = by (eqb (refusal s m room) 0)
   where
@@ -52,7 +51,7 @@ step-count s m room = by (eqb (refusal s m room) 0)
     by true = let i = takeIn (taken s (m .time)) (m .body) in answered-count (m .body) (i .state) (i .act)
     by false = refl
 
--- ---- the records of a list
+-- ---- the records of a list of structs
 
 shown-rank : (k : U.Rank) → rankOf (heldRank k) ≡ k
 shown-rank U.L = refl
@@ -77,39 +76,49 @@ first-written ys fs = first fs (drop (length (map heldFill fs)) ys)
     first [] ys = refl
     first (f ∷ fs) ys = ap₂ (λ (g : U.Fill) (gs : List U.Fill). g ∷ gs) (shown-fill f) (first fs ys)
 
+-- ---- one message
+
+module _ (longs words : List ℕ) where
+  told-stepped : (a : Stepped longs words) → toldBy (byStep a) ≡ answerTo (stateOf longs words) (sentOf (byStep a)) .fills
+  told-stepped a =
+      ap (recordsIn (a .list′))
+      (ap fillCount (a .kept .outcome) ∙ step-count (stateOf longs words) (messageOf (a .message)) (placesIn longs words (a .list) (a .room)) ∙ sym (a .kept .count))
+      ∙ a .kept .records
+
+  told-applied : (a : Applied longs words) → toldBy (byApply a) ≡ answerTo (stateOf longs words) (sentOf (byApply a)) .fills
+  told-applied a =
+      let places : ℕ = placesIn longs words (a .list) (length (a .fills)) in
+      ap₂ (λ (n : ℕ) (l : List Fill). map fillOf (take n l)) (ap fillCount (a .kept .outcome) ∙ step-count (stateOf longs words) (messageOf (a .message)) places) (a .kept .list)
+      ∙ first-written (a .fills) (step (stateOf longs words) (messageOf (a .message)) places .fills)
+
+  told-here : (a : Taken longs words) → toldBy a ≡ answerTo (stateOf longs words) (sentOf a) .fills
+  told-here (byStep a) = told-stepped a
+  told-here (byApply a) = told-applied a
+
+  state-after : (a : Taken longs words) → stateOf (longsAfter a) (wordsAfter a) ≡ answerTo (stateOf longs words) (sentOf a) .state
+  state-after (byStep a) = a .kept .state
+  state-after (byApply a) = a .kept .state
+
 -- ---- a list of messages
 
-told-here : (s : State) (a : Applied s) → map fillOf (take (fillCount (outcomeOf (a .answer .outcome))) (a .list)) ≡ step (stateOf s) (messageOf (a .message)) (length (a .lent)) .fills
-told-here s a =
-    let r = step (stateOf s) (messageOf (a .message)) (length (a .lent)) in
-    ap₂ (λ (n : ℕ) (l : List Fill). map fillOf (take n l)) (ap fillCount (a .kept .0 .outcome) ∙ step-count (stateOf s) (messageOf (a .message)) (length (a .lent))) (a .kept .1)
-    ∙ first-written (a .lent) (r .fills)
-
-told-is : {s : State} (run : Run s) → told run ≡ map (λ a. a .fills) (answers (stateOf s) (sents run))
+told-is : {longs words : List ℕ} (run : Run longs words) → told run ≡ map (λ a. a .fills) (answers (stateOf longs words) (sents run))
 unfolding answers
-told-is (over s) = refl
-told-is (then s a r) =
-    ap₂ (λ (f : List U.Fill) (fs : List (List U.Fill)). f ∷ fs) (told-here s a)
-    (told-is r ∙ ap (λ (x : Shown). map (λ y. y .fills) (answers x (sents r))) (a .kept .0 .state))
+told-is (over longs words) = refl
+told-is (then longs words a run) =
+    ap₂ (λ (f : List U.Fill) (fs : List (List U.Fill)). f ∷ fs) (told-here longs words a)
+    (told-is run ∙ ap (λ (s : State). map (λ y. y .fills) (answers s (sents run))) (state-after longs words a))
 
--- the state of an accepted opening is the one from which the replay starts
-opened-start : (o : Strategy) (r : Opened) → IsOpened o r → r .number ≡ 0 → (opening (openingOf o) ≡ started (stateOf (r .state))) × (stateOf (r .state) ≡ startOf (openingOf o))
-unfolding opening
-opened-start o r i n = (e, by (eqb (openingRefusal (openingOf o)) 0) refl)
+-- the state of an accepted opening is the rules'
+opening-is : (longs words : List ℕ) (o : S.Strategy) (r : ℕ) (longs′ words′ : List ℕ) → Opens longs words o r longs′ words′ → r ≡ 0 → opening o ≡ started (stateOf longs′ words′)
+opening-is longs words o r longs′ words′ h e = go (isSized longs words) refl
   where
-    e : opening (openingOf o) ≡ started (stateOf (r .state))
-    e = sym (i .1) ∙ rw n refl
-
-    state : Opened′ → Shown
-    state (refusedOpening k) = startOf (openingOf o)
-    state (started s) = s
-
-    by : (x : Bool) → eqb (openingRefusal (openingOf o)) 0 ≡ x → stateOf (r .state) ≡ startOf (openingOf o)
-    by true q = sym (ap state (rw q at e))
-    by false q = sym (ap state (rw q at e))
+    go : (b : Bool) → isSized longs words ≡ b → opening o ≡ started (stateOf longs′ words′)
+    go true q = sym (h .answer q) ∙ ap (λ (n : ℕ). openedBy n (stateOf longs′ words′)) e
+    go false q = let z : r ≡ 10 = h .number ∙ ap (λ (b : Bool). pick b (S.openingRefusal o) 10) q in absurd (omega arith)
 
 pub demand-3 : Demand3
 unfolding Demand3 Demand3OfRules
-demand-3 o r i n run =
-    let s = opened-start o r i n in
-    rw (← s .1) (rw (told-is run) (demand-3-of-rules (openingOf o) (stateOf (r .state)) (s .0) (sents run)))
+demand-3 o longs words longs′ words′ r h e run =
+    let s : State = stateOf longs′ words′ in
+    let q : opening (openingOf o) ≡ started s = opening-is longs words (openingOf o) r longs′ words′ h e in
+    rw (opened (openingOf o) s q .1, told-is run) (demand-3-of-rules (openingOf o) s q (sents run))

@@ -1,1 +1,3 @@
-pub mod WorkLaws
+pub mod StepLaws
+pub mod AnswerLaws
+mod RouteLaws

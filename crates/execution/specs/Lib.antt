@@ -1,1 +1,5 @@
-pub mod Batches
+pub mod Walk
+pub mod Turned
+pub mod Plays
+pub mod Slots
+pub mod Reach

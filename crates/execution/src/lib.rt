@@ -1,182 +1,475 @@
-// One order's turn: what is open to it, what each gives, its records, and the book and the market after it.
-ghost use mathlib.Core.Path.{_≡_};
-ghost use Prim.Native.Nat.{_<_, _≤_, min};
-ghost use lib.ListN.{length, take};
-ghost use Rattle.rules.specs.Basics.{sum};
-ghost use Rattle.rules.specs.Execution.{stageAfter};
-ghost use Rattle.types.specs.View.{stageOf, derivedOf};
-ghost use Rattle.turn.specs.Open.{modeOf};
-ghost use Rattle.execution.specs.Batches.{IsBatch, IsExecuted, IsReady, IsReadyAt, noBatch};
-use turn::Mode;
-use types::Auction;
-use types::Book;
+// Document 01, "Execution": one order's turn in the lent state, its records written into the lent list as they come; and the turns of the orders under some ids.
+use offers::Rank;
+use state::Book;
+use state::Clock;
+use state::Stage;
 use types::Derived;
-use types::Entry;
-use types::Market;
-use types::Strategy;
+ghost use mathlib.Core.Path.{_≡_};
+ghost use mathlib.Core.Bool.{true};
+ghost use mathlib.Core.List.{List};
+ghost use Prim.Native.Nat.{ℕ, _+_, _-_, _*_, _%_, _<_, _≤_};
+ghost use lib.Dec.{eqb};
+ghost use lib.ListN.{length, take};
+ghost use Rattle.rules.specs.Basics.{pick, sum};
+ghost use Rattle.rules.specs.Turn.{isShared, deal};
+ghost use Rattle.rules.specs.Execution.{legsPass, turnOf, stageAfter, executed, ready, executeIf, execute, serve};
+ghost use Rattle.types.specs.View.{stageOf, derivedOf};
+ghost use Rattle.state.specs.Layout.{Sized, WordsSized};
+ghost use Rattle.state.specs.View.{entryAt, stateOf};
+ghost use Rattle.state.specs.Lent.{Becomes};
+ghost use Rattle.records.specs.Records.{mostGiven, Writes};
+ghost use Rattle.execution.specs.Slots.{modeOf, offersIn};
+ghost use Rattle.execution.specs.Walk.{noPlace, nearer, gathered, leastFrom, sizesOf, over, Under};
+ghost use Rattle.execution.specs.Turned.{slotRecords, Slotted, WritesAt, Cleared, Turned, orderAt, IsContra, Turns, Gives};
+ghost use Rattle.execution.specs.Plays.{Plays};
 
-// A turn: the legs' price, the order and the units that it took, the slots with a record in sequence, and of each slot its place, what it gave, and the id and price of its entry.
-// Slot 0 is the legs, slot k + 1 the entry at place k as the turn began.
-pub struct Batch {
-    pub legs: u64,
-    pub order: u32,
-    pub units: u32,
-    pub count: usize,
-    pub slots: [u32; 65],
-    pub places: [u32; 65],
-    pub gave: [u32; 65],
-    pub ids: [u32; 64],
-    pub prices: [u32; 64],
+mod offers;
+
+pub use offers::Mode;
+pub use offers::at_or_through;
+
+// ---- records
+
+// The record of units that a slot gives, by the number of its rank; "a share of 0 has none".
+fn put_slot(
+    words: &[u32],
+    list: &mut [u64],
+    at: usize,
+    number: u64,
+    order: u32,
+    legs: u64,
+    rank: u32,
+    slot: usize,
+    units: u32,
+) -> usize
+    requires { ⌜ WordsSized (now words) × (slot < 65) × (legs ≤ mostGiven) ⌝ }
+    ensures { λ r. ⌜ Writes list at r (slotRecords number order legs (now (words .entry)) rank slot units) ⌝ }
+{
+    if units == 0 {
+        return at;
+    }
+    if slot == 0 {
+        return records::put_record(list, at, number, order, rank, 0, legs, units);
+    }
+    let k = slot - 1;
+    let contra = records::contra_of(words[Book::IDS + k]);
+    let price = number::wide(words[Book::PRICES + k]);
+    records::put_record(list, at, number, order, rank, contra, price, units)
 }
 
-// The book and the market after a turn, and its records.
-pub struct Executed {
-    pub book: Book,
-    pub market: Market,
-    pub batch: Batch,
+// ---- the nearest place
+
+// No place: above every one.
+const NONE: u64 = 4_294_967_296;
+
+// A place, and the units there.
+struct Place {
+    pub number: u64,
+    pub units: u64,
+}
+
+// The nearest place from b on that has units, where m is so far, with a slot of u units at p.
+fn nearer(b: u64, m: Place, p: u32, u: u32) -> Place
+    requires { ⌜ m .units ≤ 64 * 4294967295 ⌝ }
+    ensures { λ r. ⌜ (r .number ≡ nearer b (m .number) p u) × (r .units ≡ gathered b (m .number) (m .units) p u) × (r .units ≤ m .units + 4294967295) × (p < noPlace) ⌝ }
+{
+    let q = p as u64;
+    if q < b {
+        return m;
+    }
+    if m.number < q {
+        return m;
+    }
+    if u == 0 {
+        return m;
+    }
+    if q < m.number {
+        return Place {
+            number: q,
+            units: u as u64,
+        };
+    }
+    Place {
+        number: q,
+        units: m.units + (u as u64),
+    }
+}
+
+// The nearest place from b on that has units, if there is one, and "the rank's total".
+fn nearest(places: &[u32; 65], units: &[u32; 65], n: usize, b: u64) -> Place
+    requires { ⌜ (n ≤ 65) × (length (now places) ≡ 65) × (length (now units) ≡ 65) × (b ≤ noPlace) ⌝ }
+    ensures { λ r. ⌜ (r .number ≡ leastFrom b noPlace (take n (now (places .entry))) (take n (now (units .entry))))
+        × (r .units ≡ sum (sizesOf (r .number) (take n (now (places .entry))) (take n (now (units .entry))))) × Under noPlace (take n (now (places .entry))) ⌝ }
+{
+    let mut m = Place {
+        number: NONE,
+        units: 0,
+    };
+    let mut i = 0;
+    while i < n {
+        m = nearer(b, m, places[i], units[i]);
+        i += 1;
+    }
+    m
+}
+
+// ---- what the slots at one place give
+
+// The order whose turn it is: the number of the message that executes it, its id and units, and the legs' price for it.
+struct Order {
+    pub number: u64,
+    pub id: u32,
+    pub units: u32,
+    pub legs: u64,
+}
+
+// The new grants of those at place k, and their records, by arrival.
+fn give(
+    words: &[u32],
+    list: &mut [u64],
+    at: usize,
+    o: Order,
+    places: &[u32; 65],
+    n: usize,
+    k: u64,
+    new: &[u32; 65],
+    gave: &mut [u32; 65],
+) -> usize
+    requires { ⌜ Slotted (now words) (now places) o n × (length (now new) ≡ 65) × (length (now gave) ≡ 65) ⌝ }
+    ensures { λ r. ⌜ (length (now (gave .exit)) ≡ 65) × (take n (now (gave .exit)) ≡ over k (take n (now (places .entry))) (take n (now (new .entry))) (take n (now (gave .entry))))
+        × WritesAt k words list at r o places n gave ⌝ }
+{
+    let rank = (k % 8) as u32;
+    let mut w = at;
+    let mut i = 0;
+    while i < n {
+        if number::wide(places[i]) == k {
+            gave[i] = new[i];
+            w = put_slot(words, list, w, o.number, o.id, o.legs, rank, i, new[i]);
+            i += 1;
+        } else {
+            i += 1;
+        }
+    }
+    w
+}
+
+// The number x for a slot at place k, 0 for another.
+fn at_place(p: u32, k: u64, x: u32) -> u32
+    ensures { λ r. ⌜ r ≡ pick (eqb p k) x 0 ⌝ }
+{
+    if p as u64 == k { x } else { 0 }
+}
+
+// The units at place k, 0 for those elsewhere.
+fn gather(places: &[u32; 65], units: &[u32; 65], n: usize, k: u64, sizes: &mut [u32; 65])
+    requires { ⌜ (n ≤ 65) × (length (now places) ≡ 65) × (length (now units) ≡ 65) × (length (now sizes) ≡ 65) ⌝ }
+    ensures { λ _. ⌜ (length (now (sizes .exit)) ≡ 65) × (take n (now (sizes .exit)) ≡ sizesOf k (take n (now (places .entry))) (take n (now (units .entry)))) ⌝ }
+{
+    let mut i = 0;
+    while i < n {
+        sizes[i] = at_place(places[i], k, units[i]);
+        i += 1;
+    }
+}
+
+// Whether place k is of rank C or N.
+fn is_shared(k: u64) -> bool
+    ensures { λ r. ⌜ r ≡ isShared k ⌝ }
+{
+    let rank = k % 8;
+    if rank == Rank::C as u64 {
+        return true;
+    }
+    rank == Rank::N as u64
+}
+
+// "C and N are shared by size"; the others in turn.
+fn deal(sizes: &[u32; 65], n: usize, k: u64, amount: u32, shares: &mut [u32; 65])
+    requires { ⌜ (n ≤ 65) × (length (now sizes) ≡ 65) × (length (now shares) ≡ 65) ⌝ }
+    ensures { λ _. ⌜ (length (now (shares .exit)) ≡ 65) × (take n (now (shares .exit)) ≡ deal k amount (take n (now (sizes .entry)))) ⌝ }
+{
+    if is_shared(k) {
+        share::share(sizes, n, amount, shares);
+    } else {
+        share::in_turn(sizes, n, amount, shares);
+    }
+}
+
+// An amount below the total at place k, dealt to those there, and their records.
+fn give_part(
+    words: &[u32],
+    list: &mut [u64],
+    at: usize,
+    o: Order,
+    places: &[u32; 65],
+    units: &[u32; 65],
+    n: usize,
+    k: u64,
+    amount: u32,
+    gave: &mut [u32; 65],
+) -> usize
+    requires { ⌜ Slotted (now words) (now places) o n × (length (now units) ≡ 65) × (length (now gave) ≡ 65) ⌝ }
+    ensures { λ r. ⌜ (length (now (gave .exit)) ≡ 65)
+        × (take n (now (gave .exit)) ≡ over k (take n (now (places .entry))) (deal k amount (sizesOf k (take n (now (places .entry))) (take n (now (units .entry))))) (take n (now (gave .entry))))
+        × WritesAt k words list at r o places n gave ⌝ }
+{
+    let mut sizes = [0u32; 65];
+    let mut shares = [0u32; 65];
+    gather(places, units, n, k, &mut sizes);
+    deal(&sizes, n, k, amount, &mut shares);
+    give(words, list, at, o, places, n, k, &shares, gave)
+}
+
+// ---- a turn
+
+// How many records the list has after a turn, and the units that the order took.
+struct Taken {
+    pub count: usize,
+    pub units: u32,
+}
+
+// One order's turn over the offers in the first n slots, place by place while units are left.
+fn turn(
+    words: &[u32],
+    list: &mut [u64],
+    at: usize,
+    o: Order,
+    places: &[u32; 65],
+    units: &[u32; 65],
+    n: usize,
+    gave: &mut [u32; 65],
+) -> Taken
+    requires { ⌜ Slotted (now words) (now places) o n × (length (now units) ≡ 65) × Cleared (now gave) ⌝ }
+    ensures { λ r. ⌜ (length (now (gave .exit)) ≡ 65)
+        × ((longs : List ℕ) → Turned (o .number) (o .id) (o .units) (offersIn longs (now (words .entry)) (o .legs) (now (places .entry)) (now (units .entry)) n)
+        (take n (now (gave .exit))) (r .units) (now (list .entry)) at (now (list .exit)) (r .count)) ⌝ }
+{
+    let mut w = at;
+    let mut rest = number::wide(o.units);
+    let mut b: u64 = 0;
+    while 0 < rest {
+        let m = nearest(places, units, n, b);
+        if NONE <= m.number {
+            return Taken {
+                count: w,
+                units: o.units - (rest as u32),
+            };
+        }
+        if rest < m.units {
+            w = give_part(
+                words,
+                list,
+                w,
+                o,
+                places,
+                units,
+                n,
+                m.number,
+                rest as u32,
+                gave,
+            );
+            return Taken {
+                count: w,
+                units: o.units,
+            };
+        }
+        w = give(words, list, w, o, places, n, m.number, units, gave);
+        rest -= m.units;
+        b = m.number + 1;
+    }
+    Taken {
+        count: w,
+        units: o.units,
+    }
+}
+
+// ---- the order at a place of the book
+
+// The order at place k of the book, with the legs' price for it. The message that executes has taken its number: it is one below the next.
+fn order_at(longs: &[u64], words: &[u32], k: usize, legs: u64) -> Order
+    requires { ⌜ Sized (now longs) (now words) × (k < 64) ⌝ }
+    ensures { λ r. ⌜ r ≡ orderAt (now (longs .entry)) (now (words .entry)) k legs ⌝ }
+{
+    let number = number::one_below(longs[Clock::NEXT]);
+    Order {
+        number: number,
+        id: words[Book::IDS + k],
+        units: words[Book::UNITS + k],
+        legs: legs,
+    }
+}
+
+// Its turn over the legs and the book, where d is its derived contra price.
+fn open_turn(
+    longs: &[u64],
+    words: &[u32],
+    list: &mut [u64],
+    at: usize,
+    mode: u8,
+    k: usize,
+    d: Derived,
+    gave: &mut [u32; 65],
+) -> Taken
+    requires { ⌜ Sized (now longs) (now words) × (k < 64) × Cleared (now gave) × IsContra (now longs) (now words) k (derivedOf d) ⌝ }
+    ensures { λ r. ⌜ Turns (modeOf mode) longs words k gave (r .units) list at (r .count) ⌝ }
+{
+    let mut places = [0u32; 65];
+    let mut units = [0u32; 65];
+    let o = order_at(longs, words, k, d.price);
+    let n = offers::interest(longs, words, mode, k, d, &mut places, &mut units);
+    turn(words, list, at, o, &places, &units, n, gave)
+}
+
+// Its turn in the legs' pass, where only the legs are open to it.
+fn legs_turn(
+    longs: &[u64],
+    words: &[u32],
+    list: &mut [u64],
+    at: usize,
+    k: usize,
+    d: Derived,
+    gave: &mut [u32; 65],
+) -> Taken
+    requires { ⌜ Sized (now longs) (now words) × (k < 64) × Cleared (now gave) × IsContra (now longs) (now words) k (derivedOf d) ⌝ }
+    ensures { λ r. ⌜ Turns legsPass longs words k gave (r .units) list at (r .count) ⌝ }
+{
+    let o = order_at(longs, words, k, d.price);
+    let buy = state::is_set(words[Book::BUYS + k]);
+    let shown = offers::legs_units(buy, words[Book::PRICES + k], d);
+    let units = number::lesser(o.units, shown);
+    gave[0] = units;
+    let count = put_slot(words, list, at, o.number, o.id, o.legs, Rank::L, 0, units);
+    Taken {
+        count: count,
+        units: units,
+    }
+}
+
+// Its turn, as its mode says: what each slot gives, and its records.
+fn planned(
+    longs: &[u64],
+    words: &[u32],
+    list: &mut [u64],
+    at: usize,
+    mode: u8,
+    k: usize,
+    gave: &mut [u32; 65],
+) -> Taken
+    requires { ⌜ Sized (now longs) (now words) × (k < 64) × Cleared (now gave) ⌝ }
+    ensures { λ r. ⌜ Turns (modeOf mode) longs words k gave (r .units) list at (r .count) ⌝ }
+{
+    let buy = state::is_set(words[Book::BUYS + k]);
+    let d = quotes::derived(words, buy);
+    if mode < Mode::LEGS_PASS {
+        open_turn(longs, words, list, at, mode, k, d, gave)
+    } else {
+        legs_turn(longs, words, list, at, k, d, gave)
+    }
 }
 
 // "held orders become live"; a queue order stays in the queue until the auction's end.
-fn stage_after(mode: u8) -> u8
+fn stage_after(mode: u8) -> u32
     ensures { λ r. ⌜ stageOf r ≡ stageAfter (modeOf mode) ⌝ }
 {
     if mode == Mode::FROM_QUEUE {
-        return Entry::QUEUED;
+        return Stage::QUEUED;
     }
-    Entry::LIVE
+    Stage::LIVE
 }
 
-// The units that the slots gave together, at most the order's.
-fn took(gave: &[u32; 65], n: usize, amount: u32) -> u32
-    requires { ⌜ length (now gave) ≡ 65 ⌝ }
-    ensures { λ r. ⌜ r ≡ min (sum (take (min n 65) (now (gave .entry)))) amount ⌝ }
+// The state after it: the book settled, and the legs lowered.
+fn applied(longs: &mut [u64], words: &mut [u32], mode: u8, k: usize, gave: &[u32; 65], took: u32)
+    requires { ⌜ Sized (now longs) (now words) × (k < 64) × (length (now gave) ≡ 65) × Gives (modeOf mode) (now longs) (now words) k (now gave) took ⌝ }
+    ensures { λ _. ⌜ Becomes longs words (λ s. executed (modeOf mode) s (turnOf (modeOf mode) s (entryAt (now (longs .entry)) (now (words .entry)) k))) ⌝ }
 {
-    let t = share::given(gave, n);
-    if t < amount as u64 {
-        return t as u32;
-    }
-    amount
+    let buy = state::is_set(words[Book::BUYS + k]);
+    let id = words[Book::IDS + k];
+    book::settle(longs, words, gave, id, took, stage_after(mode));
+    quotes::lower(words, buy, gave[0]);
 }
 
-// A place of the book.
-fn place(k: usize) -> usize
-    ensures { λ r. ⌜ r ≡ min k 63 ⌝ }
+// The turn of the order at place k, as its mode says: its records, and the state after it.
+fn execute(
+    longs: &mut [u64],
+    words: &mut [u32],
+    list: &mut [u64],
+    at: usize,
+    mode: u8,
+    k: usize,
+) -> usize
+    requires { ⌜ Sized (now longs) (now words) × (k < 64) ⌝ }
+    ensures { λ r. ⌜ Plays longs words list at r (λ s. executeIf true (modeOf mode) s (entryAt (now (longs .entry)) (now (words .entry)) k)) ⌝ }
 {
-    if k < 63 {
-        return k;
-    }
-    63
-}
-
-// What is open to the order at place k, what each slot gives it, and the slots with records.
-fn turned(mode: u8, a: Auction, d: Derived, b: Book, k: usize) -> Batch
-    requires { ⌜ (k < 64) × (d .price ≤ 4611686018427387904) ⌝ }
-    ensures { λ r. ⌜ IsBatch (modeOf mode) a (derivedOf d) b k r ⌝ }
-{
-    let mut places = [0u32; 65];
-    let mut sizes = [0u32; 65];
     let mut gave = [0u32; 65];
-    let mut slots = [0u32; 65];
-    let used = turn::interest(
-        mode,
-        b.buys[k],
-        b.prices[k],
-        a,
-        d,
-        &b.prices,
-        &b.units,
-        &b.buys,
-        &b.customers,
-        &b.stages,
-        b.count,
-        &mut places,
-        &mut sizes,
-    );
-    turn::turn(&places, &sizes, used, b.units[k], &mut gave);
-    let count = turn::sequence(&places, &gave, used, &mut slots);
-    let units = took(&gave, used, b.units[k]);
-    Batch {
-        legs: d.price,
-        order: b.ids[k],
-        units: units,
-        count: count,
-        slots: slots,
-        places: places,
-        gave: gave,
-        ids: b.ids,
-        prices: b.prices,
-    }
+    let t = planned(longs, words, list, at, mode, k, &mut gave);
+    applied(longs, words, mode, k, &gave, t.units);
+    t.count
 }
 
-// The turn of the order at a place of the book, as its mode says.
-pub fn execute(mode: u8, s: Strategy, m: Market, b: Book, a: Auction, at: usize) -> Executed
-    ensures { λ r. ⌜ IsExecuted (modeOf mode) s m b a (min at 63) r ⌝ }
-{
-    let k = place(at);
-    let buy = b.buys[k];
-    let d = market::derived(buy, s, m);
-    let t = turned(mode, a, d, b, k);
-    let after = book::settled(b, &t.gave, t.order, t.units, stage_after(mode));
-    let left = market::lower(buy, t.gave[0], s, m);
-    Executed {
-        book: after,
-        market: left,
-        batch: t,
-    }
-}
+// ---- the orders under some ids
 
 // "queue orders execute"; "held orders become live .., each executing first"; "live orders at or through the derived contra price execute".
-fn is_ready(mode: u8, s: Strategy, m: Market, stage: u8, buy: bool, price: u32) -> bool
-    ensures { λ r. ⌜ IsReady (modeOf mode) s m (stageOf stage) buy price r ⌝ }
+fn is_ready(words: &[u32], mode: u8, k: usize) -> bool
+    requires { ⌜ WordsSized (now words) × (k < 64) ⌝ }
+    ensures { λ r. ⌜ ((longs : List ℕ) → r ≡ ready (modeOf mode) (stateOf longs (now (words .entry))) (entryAt longs (now (words .entry)) k)) ⌝ }
 {
+    let stage = words[Book::STAGES + k];
     if mode == Mode::FROM_QUEUE {
-        return scan::is_queued(stage);
+        return book::is_queued(stage);
     }
     if mode == Mode::GOING_LIVE {
-        return scan::is_held(stage);
+        return book::is_held(stage);
     }
-    let d = market::derived(buy, s, m);
-    let within = turn::is_within(buy, d.price, price);
-    scan::is_live(stage) & ((0 < d.units) & within)
+    let buy = state::is_set(words[Book::BUYS + k]);
+    let limit = words[Book::PRICES + k];
+    let d = quotes::derived(words, buy);
+    let reaching = offers::at_or_through(buy, limit, d);
+    book::is_live(stage) & reaching
 }
 
-// Where the order under an id stands, if it is open and ready still; 64 if not.
-pub fn ready_at<'a>(
+// The turn of the order under an id, if it is open and at that stage still.
+fn execute_id(
+    longs: &mut [u64],
+    words: &mut [u32],
+    list: &mut [u64],
+    at: usize,
     mode: u8,
-    s: Strategy,
-    m: Market,
-    ids: &'a [u32; 64],
-    stages: &'a [u8; 64],
-    buys: &'a [bool; 64],
-    prices: &'a [u32; 64],
-    n: usize,
     id: u32,
 ) -> usize
-    ensures { λ r. ⌜ IsReadyAt (modeOf mode) s m (now (ids .entry)) (now (stages .entry)) (now (buys .entry)) (now (prices .entry)) n id r ⌝ }
+    requires { ⌜ Sized (now longs) (now words) ⌝ }
+    ensures { λ r. ⌜ Plays longs words list at r (execute (modeOf mode) id) ⌝ }
 {
-    let k = scan::place_of(ids, n, id);
-    if scan::shown(n) <= k {
-        return 64;
+    let n = state::open_count(words);
+    let k = book::find(words, id);
+    if n <= k {
+        return at;
     }
-    if is_ready(mode, s, m, stages[k], buys[k], prices[k]) {
-        return k;
+    if is_ready(words, mode, k) {
+        return execute(longs, words, list, at, mode, k);
     }
-    64
+    at
 }
 
-// The batch of no turn.
-pub fn no_batch() -> Batch
-    ensures { λ r. ⌜ r ≡ noBatch ⌝ }
+// The turns of the orders under the first n ids, each from the state that the one before left.
+pub fn serve(
+    longs: &mut [u64],
+    words: &mut [u32],
+    list: &mut [u64],
+    at: usize,
+    mode: u8,
+    ids: &[u32; 64],
+    n: usize,
+) -> usize
+    requires { ⌜ Sized (now longs) (now words) × (length (now ids) ≡ 64) ⌝ }
+    ensures { λ r. ⌜ Plays longs words list at r (serve (modeOf mode) (take n (now (ids .entry)))) ⌝ }
 {
-    Batch {
-        legs: 0,
-        order: 0,
-        units: 0,
-        count: 0,
-        slots: [0; 65],
-        places: [0; 65],
-        gave: [0; 65],
-        ids: [0; 64],
-        prices: [0; 64],
+    let end = number::lesser_size(n, Book::MOST_ENTRIES);
+    let mut w = at;
+    let mut i = 0;
+    while i < end {
+        w = execute_id(longs, words, list, w, mode, ids[i]);
+        i += 1;
     }
+    w
 }

@@ -1,101 +1,87 @@
--- The work of a record of a kind, and of one of none; a reply, line after line.
-use mathlib.Core.Path.{_≡_, refl, ap, sym, subst, _∙_}
-use mathlib.Core.Bool.{Bool, true, false}
-use mathlib.Core.List.{List}
-use Prim.Native.Nat.{ℕ, _<_}
+-- The answer to a record of a kind, and of one of none; the lines of an answer are its bytes.
+use mathlib.Core.Path.{_≡_, refl, ap, ap₂, sym, subst, _∙_}
+use mathlib.Core.Bool.{true, false}
+use mathlib.Core.List.{List, [], _++_}
+use Prim.Native.Nat.{ℕ, zero, suc, _+_, _-_, _*_, _/_, _≤_, _<_}
 use native.Mathlib.Omega.{arith}
-use borrow.Author.Tests.{ltb-true, ltb-false, ne-eqb}
-use lib.Dec.{ltb}
+use borrow.Author.Tests.{ne-eqb, lt-ltb}
 use lib.ListN.{length, getD}
-use Rattle.rules.specs.State.{State as Shown}
+use Rattle.rules.specs.Outcome.{Outcome, Refused}
 use Rattle.rules.specs.Refusals.{leastRoom}
-use Rattle.rules.specs.Step.{recordsOf}
-use Rattle.rules.specs.Tape.{isKind}
-use Rattle.rules.specs.Tape.{messageOf as messageIn}
+use Rattle.rules.specs.Messages.{Message}
 use Rattle.rules.specs.Turn.{Fill}
 use Rattle.rules.specs.Print.{fillLine}
-use Rattle.types.specs.declared.State.{State}
-use Rattle.types.specs.declared.Message.{Message}
-use Rattle.types.specs.declared.Answer.{Answer as Given}
-use Rattle.types.specs.View.{stateOf, messageOf, outcomeOf}
-use Rattle.phases.specs.Rest.{recordAt}
-use Rattle.engine.specs.declared.Work.{Work}
-use Rattle.engine.specs.Work.{emits, lastState, Ready, Starts, IsRefused, IsNext as IsNextWork}
-use Rattle.engine.proofs.WorkLaws.{emits-more}
+use Rattle.rules.specs.Tape.{isKind, messageOf}
+use Rattle.types.specs.View.{upto, from, outcomeOf}
+use Rattle.types.proofs.TableLaws.{from-cons, from-end}
+use Rattle.records.specs.Records.{width, recordIn, recordAt}
+use Rattle.engine.specs.declared.Answer.{Answer}
+use Rattle.engine.specs.Steps.{recordsIn, IsStep}
 use Rattle.text.specs.Text.{lineText}
+use Rattle.text.specs.Answers.{outcomeText}
 use Rattle.text.specs.Places.{Put}
-use Rattle.feed.specs.declared.Reply.{Reply}
-use Rattle.feed.specs.Replies.{answerTo, fillsText, answerText, Begins, bytesLeft, linesLeft, lineAt, Goes, IsAtRecords, Follows, IsNext}
+use Rattle.feed.specs.Replies.{answerTo, fillsText, lineOf, joined, IsAnswer}
 
-pub known-begins : (s : State) (m : Message) (p : List ℕ) (w : Work) → isKind (getD p 0 0) ≡ true → messageOf m ≡ messageIn p → Starts s m leastRoom w → Begins s p w
-unfolding answerTo
-known-begins s m p w k e a =
-    record { records = rw (k, ← e) (a .records); state = rw (k, ← e) (a .state); outcome = rw (k, ← e) (a .outcome); ready = a .ready }
+-- ---- lines
 
-pub unknown-begins : (s : State) (p : List ℕ) (w : Work) → isKind (getD p 0 0) ≡ false → IsRefused s 61 w → Begins s p w
-unfolding answerTo recordsOf
-unknown-begins s p w k a =
-    record {
-      records = rw k (a .goes .records);
-      state = rw k (a .goes .state);
-      outcome = rw (k, a .refusal) refl;
-      ready =
-          record {
-            some = λ h. absurd (omega (arith, a .none));
-            none = λ h. (a .goes .records, a .goes .state ∙ sym (ap stateOf (a .kept)));
-            few = omega (arith, a .given);
-          };
-    }
+-- the line of a record
+pub record-line : (list : List ℕ) (o : Outcome) (i : ℕ) (f : Fill) (l m : List ℕ) (n : ℕ) → (i ≡ 0 → ⊥) → f ≡ recordAt list (i - 1) → Put (lineText (fillLine f)) l n m → Put (lineOf list o i) l n m
+record-line list o i f l m n h e p =
+    let line : lineOf list o i ≡ lineText (fillLine (recordAt list (i - 1))) = rw (ne-eqb i 0 h) refl in
+    subst (λ (bs : List ℕ). Put bs l n m) (ap (λ (x : Fill). lineText (fillLine x)) e ∙ sym line) p
 
--- ---- line after line
+-- the lines of n records from place k on
+records-text : (list : List ℕ) (o : Outcome) (k n : ℕ) → (k + n) * width ≤ length list → joined (upto (lineOf list o) (k + 1) n) ≡ fillsText (upto (recordIn list) k n)
+unfolding upto
+records-text list o k zero h = refl
+records-text list o k (suc n) h =
+    let z : k + 1 - 1 ≡ k = omega arith in
+    let in-list : k < length list / width = omega arith in
+    let at : recordAt list k ≡ recordIn list k = rw (lt-ltb k (length list / width) in-list) refl in
+    let line : lineOf list o (k + 1) ≡ lineText (fillLine (recordIn list k)) = rw (ne-eqb (k + 1) 0 (λ e. omega arith), z) (ap (λ (f : Fill). lineText (fillLine f)) at) in
+    ap₂ (λ (a : List ℕ) (b : List ℕ). a ++ b) line (records-text list o (k + 1) n (omega arith))
 
--- a reply at its beginning
-pub first-bytes : (s : Shown) (p : List ℕ) (r : Reply) → r .stage ≡ 0 → outcomeOf (r .answer .outcome) ≡ answerTo s p .outcome → emits (r .work) ≡ answerTo s p .fills → bytesLeft r ≡ answerText (answerTo s p)
-unfolding bytesLeft
-first-bytes s p r e o f = rw (e, o, f) refl
+-- all lines of an answer
+lines-text : (list : List ℕ) (o : Outcome) (n : ℕ) → n * width ≤ length list → joined (from (lineOf list o) 0 (n + 1)) ≡ outcomeText o ++ fillsText (recordsIn list n)
+lines-text list o n h =
+    let z : n + 1 - (0 + 1) ≡ n - 0 = omega arith in
+    ap joined (from-cons (lineOf list o) 0 (n + 1) (omega arith))
+    ∙ ap (λ (k : ℕ). outcomeText o ++ joined (upto (lineOf list o) (0 + 1) k)) z
+    ∙ ap (λ (bs : List ℕ). outcomeText o ++ bs) (records-text list o 0 (n - 0) (omega arith))
 
--- a record's line
-pub put-record : (r : Reply) (f : Fill) (l m : List ℕ) (n : ℕ) → (r .stage ≡ 0 → ⊥) → f ≡ recordAt (r .work .phases) → Put (lineText (fillLine f)) l n m → Put (lineAt r) l n m
-put-record r f l m n e q p =
-    let line : lineAt r ≡ lineText (fillLine (recordAt (r .work .phases))) = rw (ne-eqb (r .stage) 0 e) refl in
-    subst (λ (bs : List ℕ). Put bs l n m) (ap (λ (x : Fill). lineText (fillLine x)) q ∙ sym line) p
+-- ---- answers
 
--- of a work that is ready its records are left
-at-records : (a : Given) (w : Work) (q : Reply) → Ready w → IsAtRecords a w q → (bytesLeft q ≡ fillsText (emits w)) × (linesLeft q ≡ length (emits w)) × Goes q
-unfolding bytesLeft linesLeft
-at-records a w q ready i = by (ltb 0 (w .more)) refl
-  where
-    by : (x : Bool) → ltb 0 (w .more) ≡ x → (bytesLeft q ≡ fillsText (emits w)) × (linesLeft q ≡ length (emits w)) × Goes q
-    by true e =
-        let k : q .stage ≡ 1 = i .stage ∙ rw e refl in
-        (rw (k, i .work) refl, rw (k, i .work) refl, record { ready = rw (i .work) ready; some = λ h. rw (i .work) (ltb-true 0 (w .more) e) })
-    by false e =
-        let k : q .stage ≡ 2 = i .stage ∙ rw e refl in
-        let n = ready .none (ltb-false 0 (w .more) e) .0 in
-        (rw (k, n) refl, rw (k, n) refl, record { ready = rw (i .work) ready; some = λ h. absurd (omega (arith, h, k)) })
+module _ (longs words list p : List ℕ) (r : Answer) where
+  pub known-answer : (m : Message) (longs′ words′ list′ : List ℕ) → isKind (getD p 0 0) ≡ true → m ≡ messageOf p → IsStep longs words list m leastRoom longs′ words′ list′ r → IsAnswer longs words list p longs′ words′ list′ r
+  unfolding answerTo
+  known-answer m longs′ words′ list′ k e a =
+      let a′ : IsStep longs words list (messageOf p) leastRoom longs′ words′ list′ r = subst (λ (x : Message). IsStep longs words list x leastRoom longs′ words′ list′ r) e a in
+      let inside : r .count * width ≤ length list′ = omega (arith, a′ .sized .2, a′ .inside .1) in
+      record {
+        state = rw k (a′ .state);
+        outcome = rw k (a′ .outcome);
+        count = rw k (a′ .count);
+        records = rw k (a′ .records);
+        bytes = rw k (lines-text list′ (outcomeOf (r .outcome)) (r .count) inside ∙ ap₂ (λ (o : Outcome) (fs : List Fill). outcomeText o ++ fillsText fs) (a′ .outcome) (a′ .records));
+        behind = a′ .behind;
+        sized = a′ .sized;
+        inside = a′ .inside;
+        refused = λ h. a′ .refused (rw k at h);
+      }
 
--- what stands behind a record, and behind another line
-pub behind-record : (r q : Reply) (w : Work) → r .stage ≡ 1 → IsNextWork (r .work) w → IsAtRecords (r .answer) w q → Follows r q
-behind-record r q w e n i =
-    record { stage = i .stage ∙ rw (i .work) refl; answer = i .answer; records = ap emits (i .work) ∙ n .records ∙ rw e refl; state = ap lastState (i .work) ∙ n .state }
-
-pub behind-other : (r q : Reply) → (r .stage ≡ 1 → ⊥) → IsAtRecords (r .answer) (r .work) q → Follows r q
-behind-other r q e i = record { stage = i .stage ∙ rw (i .work) refl; answer = i .answer; records = ap emits (i .work) ∙ rw (ne-eqb (r .stage) 1 e) refl; state = ap lastState (i .work) }
-
-pub least-stage : (k : ℕ) → k < 2 → (k ≡ 1 → ⊥) → k ≡ 0
-least-stage k h n = omega (arith, h, n)
-
--- after the outcome's line
-pub after-outcome : (r q : Reply) → r .stage ≡ 0 → Goes r → IsAtRecords (r .answer) (r .work) q → IsNext r q
-unfolding bytesLeft linesLeft
-after-outcome r q e g i =
-    let f = at-records (r .answer) (r .work) q (g .ready) i in
-    record { bytes = rw (f .0, e) refl; lines = rw (f .1, e) (omega arith); goes = f .2 }
-
--- after a record's
-pub after-record : (r q : Reply) (w : Work) → r .stage ≡ 1 → Goes r → IsNextWork (r .work) w → IsAtRecords (r .answer) w q → IsNext r q
-unfolding bytesLeft linesLeft
-after-record r q w e g n i =
-    let f = at-records (r .answer) w q (n .ready) i in
-    let m = emits-more (r .work) w (g .ready) (g .some e) n in
-    record { bytes = rw (f .0, e, m) refl; lines = rw (f .1, e, m) (omega arith); goes = f .2 }
+  pub unknown-answer : isKind (getD p 0 0) ≡ false → r .count ≡ 0 → outcomeOf (r .outcome) ≡ Refused 61 → IsAnswer longs words list p longs words list r
+  unfolding answerTo
+  unknown-answer k c o =
+      let none : recordsIn list (r .count) ≡ [] = rw c (from-end (recordIn list) 0 0 (omega arith)) in
+      let inside : r .count * width ≤ length list = omega arith in
+      record {
+        state = rw k refl;
+        outcome = rw k o;
+        count = rw k c;
+        records = rw k none;
+        bytes = rw k (lines-text list (outcomeOf (r .outcome)) (r .count) inside ∙ ap₂ (λ (o : Outcome) (fs : List Fill). outcomeText o ++ fillsText fs) o none);
+        behind = λ i h. refl;
+        sized = (refl, refl, refl);
+        inside = (omega arith, inside);
+        refused = λ h. (refl, refl, refl);
+      }

@@ -1,97 +1,74 @@
--- What live answers: to a header and the legs behind it, and to a message record.
+-- What live answers to a message record, from the state in the lent slices, and the bytes of that answer.
 use mathlib.Core.Path.{_≡_}
-use mathlib.Core.List.{List, [], _++_}
-use Prim.Native.Nat.{ℕ, suc, _<_}
-use lib.Dec.{eqb, ltb}
+use mathlib.Core.List.{List, [], _∷_, _++_}
+use Prim.Native.Nat.{ℕ, _+_, _-_, _*_, _≤_, _<_}
+use lib.Dec.{eqb}
 use lib.ListN.{length, getD}
+use denote.Ref.{now}
 use Rattle.rules.specs.Basics.{pick}
 use Rattle.rules.specs.State.{State}
+use Rattle.rules.specs.Outcome.{Outcome}
 use Rattle.rules.specs.Turn.{Fill}
 use Rattle.rules.specs.Refusals.{leastRoom}
-use Rattle.rules.specs.Step.{Answer, turnedBack, step}
-use Rattle.rules.specs.Tape.{headerBytes, isKind, messageOf}
-use Rattle.rules.specs.Run.{Opened, opening}
+use Rattle.rules.specs.Step as R
+use Rattle.rules.specs.Tape.{isKind, messageOf}
 use Rattle.rules.specs.Print.{fillLine, fillLines}
-use Rattle.types.specs.declared.State.{State as Held}
-use Rattle.types.specs.declared.Answer.{Answer as Given}
-use Rattle.types.specs.View.{stateOf, outcomeOf}
-use Rattle.tape.specs.View.{strategyFrom}
-use Rattle.phases.specs.Rest.{recordAt, later}
-use Rattle.engine.specs.declared.Work.{Work}
-use Rattle.engine.specs.Work.{emits, lastState, lastOutcome, Ready}
+use Rattle.types.specs.View.{from, outcomeOf}
+use Rattle.state.specs.View.{stateOf}
+use Rattle.state.specs.Lent.{Lent}
+use Rattle.records.specs.Records.{width, recordAt}
+use Rattle.engine.specs.declared.Answer.{Answer}
+use Rattle.engine.specs.Steps.{recordsIn, placesIn, refusalIn}
 use Rattle.text.specs.Text.{lineText, linesText}
 use Rattle.text.specs.Answers.{outcomeText}
-use Rattle.feed.specs.declared.Reply.{Reply}
 
--- ---- the answers
+-- ---- the answer
 
--- the opening: the header's settings, and as many legs as it counts right behind it
-abbrev pub openingIn : List ℕ → Opened
-openingIn t = opening (strategyFrom headerBytes t)
+-- the answer to a record with a fill list of so many places; a record of no kind is turned back with 61
+unfoldable pub answerTo : State → List ℕ → ℕ → R.Answer
+answerTo s p room = pick (isKind (getD p 0 0)) (R.step s (messageOf p) room) (R.turnedBack s 61)
 
--- the answer to a record, with a fill list of 2,000 places; a record of no kind is turned back with 61
-unfoldable pub answerTo : State → List ℕ → Answer
-answerTo s p = pick (isKind (getD p 0 0)) (step s (messageOf p) leastRoom) (turnedBack s 61)
+-- the same from the lent slices: 2,000 places, where the list has them
+abbrev pub answerIn : List ℕ → List ℕ → List ℕ → List ℕ → R.Answer
+answerIn longs words list p = answerTo (stateOf longs words) p (placesIn longs words list leastRoom)
+
+-- the number that turns a record back
+abbrev pub numberIn : List ℕ → List ℕ → List ℕ → List ℕ → ℕ
+numberIn longs words list p = pick (isKind (getD p 0 0)) (refusalIn longs words list (messageOf p) leastRoom) 61
+
+-- ---- its bytes
 
 -- a line for each record
 abbrev pub fillsText : List Fill → List ℕ
 fillsText fs = linesText (fillLines fs)
 
 -- the bytes of an answer: the outcome's line, and then the records'
-abbrev pub answerText : Answer → List ℕ
+abbrev pub answerText : R.Answer → List ℕ
 answerText a = outcomeText (a .outcome) ++ fillsText (a .fills)
 
--- ---- a reply, line after line
+-- line i of an answer: the outcome's, and behind it those of the records in a list
+abbrev pub lineOf : List ℕ → Outcome → ℕ → List ℕ
+lineOf list o i = pick (eqb i 0) (outcomeText o) (lineText (fillLine (recordAt list (i - 1))))
 
--- the work of a record: it gives the answer's records, and comes to its state and outcome
-pub record Begins (s : Held) (p : List ℕ) (w : Work) : Type 0 where
-  pub records : emits w ≡ answerTo (stateOf s) p .fills
-  pub state : lastState w ≡ answerTo (stateOf s) p .state
-  pub outcome : lastOutcome w ≡ answerTo (stateOf s) p .outcome
-  pub ready : Ready w
+-- some lines, one after the other
+abbrev pub joined : List (List ℕ) → List ℕ
+joined [] = []
+joined (l ∷ ls) = l ++ joined ls
 
--- the bytes that are left, by the stage of a reply: outcome, record, over
-unfoldable pub bytesLeft : Reply → List ℕ
-bytesLeft r =
-    pick (eqb (r .stage) 0) (outcomeText (outcomeOf (r .answer .outcome)) ++ fillsText (emits (r .work)))
-    (pick (eqb (r .stage) 1) (fillsText (emits (r .work))) [])
+-- ---- said of the lent slices
 
--- how many lines they are
-unfoldable pub linesLeft : Reply → ℕ
-linesLeft r = pick (eqb (r .stage) 0) (suc (length (emits (r .work)))) (pick (eqb (r .stage) 1) (length (emits (r .work))) 0)
+-- what `answer` promises, whole: the state, the outcome, the records at the start of the list, and their bytes; what stands behind the records is as it was, and under a refusal every number is
+pub record IsAnswer (longs words list p longs′ words′ list′ : List ℕ) (r : Answer) : Type 0 where
+  pub state : stateOf longs′ words′ ≡ answerIn longs words list p .state
+  pub outcome : outcomeOf (r .outcome) ≡ answerIn longs words list p .outcome
+  pub count : r .count ≡ length (answerIn longs words list p .fills)
+  pub records : recordsIn list′ (r .count) ≡ answerIn longs words list p .fills
+  pub bytes : joined (from (lineOf list′ (outcomeOf (r .outcome))) 0 (r .count + 1)) ≡ answerText (answerIn longs words list p)
+  pub behind : (i : ℕ) → r .count * width ≤ i → getD list′ i 0 ≡ getD list i 0
+  pub sized : (length longs′ ≡ length longs) × (length words′ ≡ length words) × (length list′ ≡ length list)
+  pub inside : (r .count ≤ leastRoom) × (r .count * width ≤ length list)
+  pub refused : 0 < numberIn longs words list p → (longs′ ≡ longs) × (words′ ≡ words) × (list′ ≡ list)
 
--- the line at hand
-abbrev pub lineAt : Reply → List ℕ
-lineAt r = pick (eqb (r .stage) 0) (outcomeText (outcomeOf (r .answer .outcome))) (lineText (fillLine (recordAt (r .work .phases))))
-
--- a line is at hand until a reply is over
-pub record Goes (r : Reply) : Type 0 where
-  pub ready : Ready (r .work)
-  pub some : r .stage ≡ 1 → 0 < r .work .more
-
--- a reply of which the records of a work are left
-pub record IsAtRecords (a : Given) (w : Work) (r : Reply) : Type 0 where
-  pub stage : r .stage ≡ pick (ltb 0 (w .more)) 1 2
-  pub answer : r .answer ≡ a
-  pub work : r .work ≡ w
-
--- a reply at its beginning: state, outcome, records and bytes are the answer's
-pub record Replies (s : Held) (p : List ℕ) (r : Reply) : Type 0 where
-  pub state : stateOf (r .answer .state) ≡ answerTo (stateOf s) p .state
-  pub outcome : outcomeOf (r .answer .outcome) ≡ answerTo (stateOf s) p .outcome
-  pub records : emits (r .work) ≡ answerTo (stateOf s) p .fills
-  pub bytes : bytesLeft r ≡ answerText (answerTo (stateOf s) p)
-  pub goes : Goes r
-
--- a reply behind another, whatever that one is: the same answer, and the records that are left
-pub record Follows (r q : Reply) : Type 0 where
-  pub stage : q .stage ≡ pick (ltb 0 (q .work .more)) 1 2
-  pub answer : q .answer ≡ r .answer
-  pub records : emits (q .work) ≡ pick (eqb (r .stage) 1) (later (r .work .phases)) (emits (r .work))
-  pub state : lastState (q .work) ≡ lastState (r .work)
-
--- a reply once the line at hand is given
-pub record IsNext (r q : Reply) : Type 0 where
-  pub bytes : bytesLeft r ≡ lineAt r ++ bytesLeft q
-  pub lines : linesLeft q < linesLeft r
-  pub goes : Goes q
+-- the same for a contract
+abbrev pub Answers : Lent → Lent → Lent → List ℕ → Answer → Type 0
+Answers longs words list p r = IsAnswer (now (longs .entry)) (now (words .entry)) (now (list .entry)) p (now (longs .exit)) (now (words .exit)) (now (list .exit)) r

@@ -1,6 +1,9 @@
-pub mod ListLaws
-pub mod HeldLaws
+pub mod Lent
+pub mod Buffers
+pub mod Shared
+pub mod Locals
 pub mod FillRow
-pub mod FieldRead
-pub mod ArrayCells
-pub mod Literal
+pub mod HeldLaws
+pub mod ListLaws
+pub mod AppliedLaws
+pub mod Callees

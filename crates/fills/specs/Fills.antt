@@ -1,20 +1,20 @@
--- The answer to a message, and what it leaves in the list of records.
+-- The answer to a message, and what it leaves in the lent slices and in both lists of records.
 use mathlib.Core.Path.{_≡_}
 use mathlib.Core.List.{List, _++_, map}
-use Prim.Native.Nat.{ℕ, _<_}
-use lib.ListN.{length, drop}
+use Prim.Native.Nat.{ℕ, _*_, _≤_, _<_}
+use lib.ListN.{length, getD, drop}
 use Rattle.rules.specs.Turn as U
-use Rattle.rules.specs.Step.{step}
-use Rattle.rules.specs.Refusals.{refusal}
+use Rattle.rules.specs.Messages.{Message}
 use Rattle.types.specs.declared.Rank.{Rank}
 use Rattle.types.specs.declared.Rank.the-variants as Rank
 use Rattle.types.specs.declared.Contra.{Contra}
 use Rattle.types.specs.declared.Contra.the-variants as Contra
 use Rattle.types.specs.declared.Fill.{Fill}
-use Rattle.types.specs.declared.State.{State}
-use Rattle.types.specs.declared.Message.{Message}
-use Rattle.types.specs.declared.Answer.{Answer}
-use Rattle.types.specs.View.{stateOf, messageOf, outcomeOf}
+use Rattle.types.specs.declared.Outcome.{Outcome}
+use Rattle.types.specs.View.{outcomeOf}
+use Rattle.state.specs.View.{stateOf}
+use Rattle.records.specs.Records.{width}
+use Rattle.engine.specs.Steps.{recordsIn, refusalIn, answerIn}
 
 -- the rank, the contra and the record that stand for the rules'
 abbrev pub heldRank : U.Rank → Rank
@@ -31,20 +31,20 @@ heldContra (U.entry i) = Contra.Entry i
 abbrev pub heldFill : U.Fill → Fill
 heldFill f = record { number = f .number; price = f .price; order = f .order; units = f .units; rank = heldRank (f .rank); contra = heldContra (f .contra) }
 
--- the records of a message, with a list of so many places
-abbrev pub recordsFor : State → Message → ℕ → List Fill
-recordsFor s m room = map heldFill (step (stateOf s) (messageOf m) room .fills)
-
 -- the list ys with the records fs at its start
 abbrev pub written : {A : Type 0} → List A → List A → List A
 written ys fs = fs ++ drop (length fs) ys
 
--- the answer is the rules', and a refusal leaves the state as it stood, with what no view shows
-pub record Answers (s : State) (m : Message) (room : ℕ) (r : Answer) : Type 0 where
-  pub state : stateOf (r .state) ≡ step (stateOf s) (messageOf m) room .state
-  pub outcome : outcomeOf (r .outcome) ≡ step (stateOf s) (messageOf m) room .outcome
-  pub refused : 0 < refusal (stateOf s) (messageOf m) room → r .state ≡ s
+-- the records of a message, with as many places as the list of structs has
+abbrev pub recordsFor : List ℕ → List ℕ → List ℕ → List Fill → Message → List U.Fill
+recordsFor ls ws xs ys m = answerIn ls ws xs m (length ys) .fills
 
--- what `apply` promises, whole: of the state, the message, the list as it was lent, the answer and the list as it came back
-abbrev pub IsApplied : State → Message → List Fill → Answer → List Fill → Type 0
-IsApplied s m lent r list = Answers s m (length lent) r × (list ≡ written lent (recordsFor s m (length lent)))
+-- what `apply` promises, whole: of the lent lists and the message as they were, the outcome, and the four lists as they came back
+pub record IsApplied (ls ws xs : List ℕ) (ys : List Fill) (m : Message) (r : Outcome) (ls′ ws′ xs′ : List ℕ) (zs : List Fill) : Type 0 where
+  pub state : stateOf ls′ ws′ ≡ answerIn ls ws xs m (length ys) .state
+  pub outcome : outcomeOf r ≡ answerIn ls ws xs m (length ys) .outcome
+  pub records : recordsIn xs′ (length (recordsFor ls ws xs ys m)) ≡ recordsFor ls ws xs ys m
+  pub behind : (i : ℕ) → length (recordsFor ls ws xs ys m) * width ≤ i → getD xs′ i 0 ≡ getD xs i 0
+  pub list : zs ≡ written ys (map heldFill (recordsFor ls ws xs ys m))
+  pub sized : (length ls′ ≡ length ls) × (length ws′ ≡ length ws) × (length xs′ ≡ length xs) × (length zs ≡ length ys)
+  pub refused : 0 < refusalIn ls ws xs m (length ys) → (ls′ ≡ ls) × (ws′ ≡ ws) × (xs′ ≡ xs) × (zs ≡ ys)

@@ -1,1 +1,1 @@
-pub mod IntakeLaws
+pub mod ArrivalLaws

@@ -1,35 +1,34 @@
-// Document 01, "Order and auction life": a message taken in, the state with it and what it does to the auction.
+// Document 01, "Order and auction life": a message taken in, in place: the state with it, and what it does to the auction.
 ghost use mathlib.Core.Path.{_≡_};
 ghost use mathlib.Core.Bool.{_&&_};
-ghost use mathlib.Core.List.{[]};
-ghost use Prim.Native.Nat.{ℕ, _+_, _-_, _≤_, min};
+ghost use Prim.Native.Nat.{_-_, _≤_};
 ghost use lib.Dec.{leb};
 ghost use lib.ListN.{length};
 ghost use Rattle.rules.specs.Filter.{beyond};
-ghost use Rattle.rules.specs.Book.{Entry as Listed, held, queued, answer, withStage};
+ghost use Rattle.rules.specs.Book.{Entry as Open, held, queued, answer, withStage, without};
+ghost use Rattle.rules.specs.State.{Pending, pending, withBook, withAuction};
 ghost use Rattle.rules.specs.Auction.{eligible, auctionOf as beginning, endsByOrder, joins, endsByLegs};
-ghost use Rattle.rules.specs.Messages.{local, national, response, modify, cancel, clock};
-ghost use Rattle.rules.specs.State.{withBook, withMarket, withAuction};
-ghost use Rattle.rules.specs.Step.{entryOf as newEntry, modifiedEntry, withNew, orderIntake, takeIn};
-ghost use Rattle.types.specs.View.{legCount, strategyOf, marketOf, entryOf, shownBy, entriesOf, orderTerms, responseTerms, changeOf, localOf, nationalOf, bodyOf, auctionOf, stateOf};
-ghost use Rattle.scan.specs.Columns.{HasStages, HasBuys, HasPrices};
-ghost use Rattle.intake.specs.Taken.{intakeOf, seen, pendingOf, numbered, outside, during};
-use types::Auction;
+ghost use Rattle.rules.specs.Messages.{local, national, order, response, modify, cancel, clock};
+ghost use Rattle.rules.specs.Step.{entryOf as newEntry, modifiedEntry, withNew, takeIn};
+ghost use Rattle.types.specs.View.{orderTerms, responseTerms, changeOf, localOf, nationalOf, bodyOf};
+ghost use Rattle.state.specs.Layout.{Sized, LongsSized, WordsSized};
+ghost use Rattle.state.specs.View.{entryOf, clockOf, stateOf};
+ghost use Rattle.state.specs.Lent.{Tells, Becomes};
+ghost use Rattle.quotes.specs.Uses.{mostDerived};
+ghost use Rattle.intake.specs.Acts.{outside, during, TakesIn};
+use state::Auction;
+use state::Clock;
+use state::Entry;
+use state::Settings;
+use state::Stage;
 use types::Body;
-use types::Book;
 use types::Cancel;
-use types::Clock;
-use types::Entry;
 use types::Leg;
 use types::Local;
-use types::Market;
-use types::Message;
 use types::Modify;
 use types::National;
 use types::Order;
 use types::Response;
-use types::State;
-use types::Strategy;
 
 // What a message does to the auction.
 pub struct Act {}
@@ -48,131 +47,110 @@ impl Act {
     pub const ENDS_BY_LEGS: u8 = 5;
 }
 
-// A message taken in.
-pub struct Intake {
-    pub state: State,
-    pub act: u8,
-}
-
 // ---- eligibility and ends
 
 // Whether p is beyond q by more than n: above it for a buyer, below it for a seller.
-fn is_beyond(buy: bool, n: u16, p: u32, q: u64) -> bool
-    requires { ⌜ q ≤ 4380906640900 ⌝ }
+fn is_beyond(buy: bool, n: u32, p: u32, q: u64) -> bool
+    requires { ⌜ q ≤ mostDerived ⌝ }
     ensures { λ r. ⌜ r ≡ beyond buy n p q ⌝ }
 {
-    let by = n as u64;
-    let x = p as u64;
+    let by = number::wide(n);
+    let x = number::wide(p);
     if buy { q + by < x } else { x + by < q }
 }
 
 // "its units reach the class minimum, the strategy has at most the class's leg count".
-fn meets_class(s: Strategy, units: u32) -> bool
-    ensures { λ r. ⌜ r ≡ (leb (s .settings .minimum) units && leb (length (strategyOf s .legs)) (s .settings .legs)) ⌝ }
+fn meets_class(words: &[u32], units: u32) -> bool
+    requires { ⌜ WordsSized (now words) ⌝ }
+    ensures { λ r. ⌜ Tells words (λ s. r ≡ (leb (s .strategy .settings .minimum) units && leb (length (s .strategy .legs)) (s .strategy .settings .mostLegs))) ⌝ }
 {
-    let legs = market::leg_count(s);
-    (s.settings.minimum <= units) & (legs <= s.settings.legs as usize)
+    let legs = state::leg_count(words) as u32;
+    (words[Settings::MINIMUM] <= units) & (legs <= words[Settings::MOST_LEGS])
 }
 
-// "its limit is strictly better than every other open same-side order outside the queue, and a best contra price (derived, or live order) exists that the limit reaches or misses by at most the class distance".
-fn is_eligible<'a>(
-    stages: &'a [u8; 64],
-    buys: &'a [bool; 64],
-    prices: &'a [u32; 64],
-    n: usize,
-    strategy: Strategy,
-    market: Market,
-    o: Entry,
-) -> bool
-    ensures { λ r. ⌜ ((f : ℕ → Listed) → HasStages f (now (stages .entry)) → HasBuys f (now (buys .entry)) → HasPrices f (now (prices .entry)) → r ≡ eligible (seen strategy market (shownBy f n)) (entryOf o)) ⌝ }
+// "It is eligible if ..".
+fn is_eligible(words: &[u32], buy: bool, price: u32, units: u32) -> bool
+    requires { ⌜ WordsSized (now words) ⌝ }
+    ensures { λ r. ⌜ Tells words (λ s. (o : Open) → o .buy ≡ buy → o .price ≡ price → o .units ≡ units → r ≡ eligible s o) ⌝ }
 {
-    let distance = strategy.settings.distance;
-    let class = meets_class(strategy, o.units);
-    let d = market::derived(o.buy, strategy, market);
-    let far = is_beyond(!o.buy, distance, o.price, d.price);
-    let front = scan::in_front(stages, buys, prices, n, o.buy, o.price);
-    let live = scan::near_live(stages, buys, prices, n, o.buy, o.price, distance);
+    let distance = words[Settings::DISTANCE];
+    let class = meets_class(words, units);
+    let d = quotes::derived(words, buy);
+    let far = is_beyond(!buy, distance, price, d.price);
+    let front = book::in_front(words, buy, price);
+    let live = book::near_live(words, buy, price, distance);
     class & front & (((0 < d.units) & !far) | live)
 }
 
-// "Same side, better than the initiator's limit".
-fn ends_by_order(s: State, o: Entry) -> bool
-    ensures { λ r. ⌜ r ≡ endsByOrder (stateOf s) (pendingOf (s .auction)) (entryOf o) ⌝ }
+// "asking and eligible".
+fn asks(words: &[u32], wish: bool, buy: bool, price: u32, units: u32) -> bool
+    requires { ⌜ WordsSized (now words) ⌝ }
+    ensures { λ r. ⌜ Tells words (λ s. (o : Open) → o .buy ≡ buy → o .price ≡ price → o .units ≡ units → r ≡ (wish && eligible s o)) ⌝ }
 {
-    let buy = s.auction.buy;
-    let better = scan::beats(
-        &s.book.stages,
-        &s.book.buys,
-        &s.book.prices,
-        s.book.count,
-        buy,
-        o.price as u64,
-    );
-    scan::same_side(buy, o.buy) & better
+    if wish {
+        return is_eligible(words, buy, price, units);
+    }
+    false
+}
+
+// "Same side, better than the initiator's limit".
+fn ends_by_order(words: &[u32], buy: bool, price: u32) -> bool
+    requires { ⌜ WordsSized (now words) ⌝ }
+    ensures { λ r. ⌜ Tells words (λ s. (p : Pending) (o : Open) → s .auction ≡ pending p → o .buy ≡ buy → o .price ≡ price → r ≡ endsByOrder s p o) ⌝ }
+{
+    let side = state::is_set(words[Auction::BUY]);
+    let better = book::beats(words, side, number::wide(price));
+    book::same_side(side, buy) & better
 }
 
 // "Same side, equal or worse, asking and eligible".
-fn is_joining(s: State, wish: bool, o: Entry) -> bool
-    ensures { λ r. ⌜ r ≡ joins (stateOf s) (pendingOf (s .auction)) wish (entryOf o) ⌝ }
+fn is_joining(words: &[u32], wish: bool, buy: bool, price: u32, units: u32) -> bool
+    requires { ⌜ WordsSized (now words) ⌝ }
+    ensures { λ r. ⌜ Tells words (λ s. (p : Pending) (o : Open) → s .auction ≡ pending p → o .buy ≡ buy → o .price ≡ price → o .units ≡ units → r ≡ joins s p wish o) ⌝ }
 {
-    let eligible = is_eligible(
-        &s.book.stages,
-        &s.book.buys,
-        &s.book.prices,
-        s.book.count,
-        s.strategy,
-        s.market,
-        o,
-    );
-    scan::same_side(s.auction.buy, o.buy) & wish & eligible
+    let side = state::is_set(words[Auction::BUY]);
+    let same = book::same_side(side, buy);
+    let asking = asks(words, wish, buy, price, units);
+    same & asking
 }
 
 // "A local quote after which the derived price on the initiator's own side is strictly better than its limit".
-fn ends_by_legs(s: State) -> bool
-    ensures { λ r. ⌜ r ≡ endsByLegs (stateOf s) (auctionOf (s .auction)) ⌝ }
+fn ends_by_legs(words: &[u32]) -> bool
+    requires { ⌜ WordsSized (now words) ⌝ }
+    ensures { λ r. ⌜ Tells words (λ s. r ≡ endsByLegs s (s .auction)) ⌝ }
 {
-    if s.auction.pending {
-        let buy = s.auction.buy;
-        let d = market::derived(!buy, s.strategy, s.market);
-        let better = scan::beats(
-            &s.book.stages,
-            &s.book.buys,
-            &s.book.prices,
-            s.book.count,
-            buy,
-            d.price,
-        );
+    if state::is_pending(words) {
+        let side = state::is_set(words[Auction::BUY]);
+        let d = quotes::derived(words, !side);
+        let better = book::beats(words, side, d.price);
         return (0 < d.units) & better;
     }
     false
 }
 
-// ---- the state with a message
+// ---- entries
 
 // The number that a message took: one below the next.
-fn number_of(c: Clock) -> u64
-    ensures { λ r. ⌜ r ≡ c .next - 1 ⌝ }
+fn number_of(longs: &[u64]) -> u64
+    requires { ⌜ LongsSized (now longs) ⌝ }
+    ensures { λ r. ⌜ r ≡ clockOf (now (longs .entry)) .next - 1 ⌝ }
 {
-    if c.next == 0 {
-        return 0;
-    }
-    c.next - 1
+    number::one_below(longs[Clock::NEXT])
 }
 
-// "A new order is held".
+// A new order, "held".
 fn new_order(o: Order, number: u64) -> Entry
     ensures { λ r. ⌜ entryOf r ≡ newEntry (orderTerms o) number held ⌝ }
 {
-    let price = price::offset(o.price);
     Entry {
         arrival: number,
         id: o.id,
         participant: o.participant,
-        price: price,
+        price: price::offset(o.price),
         units: o.units,
-        buy: o.side == Leg::B,
-        customer: o.account == Order::CUSTOMER,
-        stage: Entry::HELD,
+        buy: state::word_of(o.side == Leg::B),
+        customer: state::word_of(o.account == Order::CUSTOMER),
+        stage: Stage::HELD,
     }
 }
 
@@ -180,16 +158,15 @@ fn new_order(o: Order, number: u64) -> Entry
 fn new_response(t: Response, number: u64) -> Entry
     ensures { λ r. ⌜ entryOf r ≡ newEntry (responseTerms t) number answer ⌝ }
 {
-    let price = price::offset(t.price);
     Entry {
         arrival: number,
         id: t.id,
         participant: t.participant,
-        price: price,
+        price: price::offset(t.price),
         units: t.units,
-        buy: t.side == Leg::B,
-        customer: t.account == Order::CUSTOMER,
-        stage: Entry::RESPONSE,
+        buy: state::word_of(t.side == Leg::B),
+        customer: state::word_of(t.account == Order::CUSTOMER),
+        stage: Stage::RESPONSE,
     }
 }
 
@@ -197,299 +174,177 @@ fn new_response(t: Response, number: u64) -> Entry
 fn modified_entry(t: Modify, number: u64, e: Entry) -> Entry
     ensures { λ r. ⌜ entryOf r ≡ modifiedEntry (changeOf t) number (entryOf e) ⌝ }
 {
-    let price = price::offset(t.price);
     Entry {
         arrival: number,
         id: e.id,
         participant: e.participant,
-        price: price,
+        price: price::offset(t.price),
         units: t.units,
-        buy: t.side == Leg::B,
+        buy: state::word_of(t.side == Leg::B),
         customer: e.customer,
-        stage: Entry::RESPONSE,
+        stage: Stage::RESPONSE,
     }
 }
 
-// An order in the queue.
+// The same entry in the queue.
 fn in_queue(e: Entry) -> Entry
     ensures { λ r. ⌜ entryOf r ≡ withStage queued (entryOf e) ⌝ }
 {
     let mut r = e;
-    r.stage = Entry::QUEUED;
+    r.stage = Stage::QUEUED;
     r
-}
-
-// The state with another book.
-fn with_book(s: State, book: Book) -> State
-    ensures { λ r. ⌜ stateOf r ≡ withBook (stateOf s) (entriesOf book) ⌝ }
-{
-    let mut r = s;
-    r.book = book;
-    r
-}
-
-// The state with other quotes.
-fn with_market(s: State, market: Market) -> State
-    ensures { λ r. ⌜ stateOf r ≡ withMarket (stateOf s) (marketOf market (legCount (s .strategy))) ⌝ }
-{
-    let mut r = s;
-    r.market = market;
-    r
-}
-
-// The state with another auction.
-fn with_auction(s: State, auction: Auction) -> State
-    ensures { λ r. ⌜ stateOf r ≡ withAuction (stateOf s) (auctionOf auction) ⌝ }
-{
-    let mut r = s;
-    r.auction = auction;
-    r
-}
-
-// The state with a new entry; a full book stays as it is.
-fn with_new(s: State, e: Entry) -> State
-    ensures { λ r. ⌜ stateOf r ≡ withNew (stateOf s) (entryOf e) ⌝ }
-{
-    if s.book.count < Book::MOST_ENTRIES {
-        let b = book::append(s.book, e);
-        return with_book(s, b);
-    }
-    s
 }
 
 // ---- orders
 
-// "its time plus the interval".
-fn deadline_of(time: u64, interval: u16) -> u64
-    requires { ⌜ time ≤ 1000000000000000 ⌝ }
-    ensures { λ r. ⌜ r ≡ time + interval ⌝ }
+// The auction of an order of that side: "begins one, ending at its time plus the interval"; the derived contra price is kept.
+fn begin(longs: &mut [u64], words: &mut [u32], buy: bool)
+    requires { ⌜ Sized (now longs) (now words) ⌝ }
+    ensures { λ _. ⌜ ((o : Open) → o .buy ≡ buy → Becomes longs words (λ s. withAuction s (beginning s o (s .clock .time)))) ⌝ }
 {
-    time + interval as u64
+    let d = quotes::derived(words, buy);
+    let time = number::lesser_long(longs[Clock::TIME], Clock::MOST_TIME);
+    let interval = words[Settings::INTERVAL];
+    longs[Auction::DEADLINE] = time + number::wide(interval);
+    longs[Auction::START_PRICE] = d.price;
+    words[Auction::PENDING] = 1;
+    words[Auction::BUY] = state::word_of(buy);
+    words[Auction::START_UNITS] = d.units;
 }
 
-// "begins one, ending at its time plus the interval"; the derived contra price is kept.
-fn begun(strategy: Strategy, market: Market, time: u64, o: Entry) -> Auction
-    requires { ⌜ time ≤ 1000000000000000 ⌝ }
-    ensures { λ r. ⌜ auctionOf r ≡ beginning (seen strategy market []) (entryOf o) time ⌝ }
+// An order with no auction pending.
+fn order_outside(longs: &mut [u64], words: &mut [u32], wish: bool, e: Entry) -> u8
+    requires { ⌜ Sized (now longs) (now words) ⌝ }
+    ensures { λ r. ⌜ TakesIn longs words r (λ s. outside s wish (entryOf e)) ⌝ }
 {
-    let start = market::derived(o.buy, strategy, market);
-    let deadline = deadline_of(time, strategy.settings.interval);
-    Auction {
-        pending: true,
-        buy: o.buy,
-        deadline,
-        start,
+    let buy = state::is_set(e.buy);
+    if asks(words, wish, buy, e.price, e.units) {
+        book::append(longs, words, in_queue(e));
+        begin(longs, words, buy);
+        return Act::BEGINS;
     }
+    book::append(longs, words, e);
+    Act::GOES_ON
 }
 
-// Asking and eligible.
-fn asks(s: State, wish: bool, o: Entry) -> bool
-    ensures { λ r. ⌜ r ≡ (wish && eligible (stateOf s) (entryOf o)) ⌝ }
+// An order during an auction.
+fn order_during(longs: &mut [u64], words: &mut [u32], wish: bool, e: Entry) -> u8
+    requires { ⌜ Sized (now longs) (now words) ⌝ }
+    ensures { λ r. ⌜ ((p : Pending) → stateOf (now (longs .entry)) (now (words .entry)) .auction ≡ pending p → TakesIn longs words r (λ s. during s p wish (entryOf e))) ⌝ }
 {
-    if wish {
-        return is_eligible(
-            &s.book.stages,
-            &s.book.buys,
-            &s.book.prices,
-            s.book.count,
-            s.strategy,
-            s.market,
-            o,
-        );
+    let buy = state::is_set(e.buy);
+    if ends_by_order(words, buy, e.price) {
+        book::append(longs, words, e);
+        return Act::ENDS_BY_ORDER;
     }
-    false
+    if is_joining(words, wish, buy, e.price, e.units) {
+        book::append(longs, words, in_queue(e));
+        return Act::JOINS;
+    }
+    book::append(longs, words, e);
+    Act::GOES_ON
 }
 
-// "An eligible order with no auction pending begins one".
-fn order_outside(s: State, wish: bool, o: Entry) -> Intake
-    requires { ⌜ s .clock .time ≤ 1000000000000000 ⌝ }
-    ensures { λ r. ⌜ intakeOf r ≡ outside (stateOf s) wish (entryOf o) ⌝ }
+// "A new order is held"; the three sentences on orders during an auction.
+fn order_in(longs: &mut [u64], words: &mut [u32], o: Order) -> u8
+    requires { ⌜ Sized (now longs) (now words) ⌝ }
+    ensures { λ r. ⌜ TakesIn longs words r (λ s. takeIn s (order (orderTerms o) (o .wish))) ⌝ }
 {
-    if asks(s, wish, o) {
-        let auction = begun(s.strategy, s.market, s.clock.time, o);
-        let first = with_new(s, in_queue(o));
-        let state = with_auction(first, auction);
-        return Intake {
-            state,
-            act: Act::BEGINS,
-        };
+    let e = new_order(o, number_of(longs));
+    if state::is_pending(words) {
+        return order_during(longs, words, o.wish, e);
     }
-    let state = with_new(s, o);
-    Intake {
-        state,
-        act: Act::GOES_ON,
-    }
-}
-
-// "Same side, better than the initiator's limit: the auction ends, that order held"; "Same side, equal or worse, asking and eligible: it joins the queue"; any other is held.
-fn order_during(s: State, wish: bool, o: Entry) -> Intake
-    ensures { λ r. ⌜ intakeOf r ≡ during (stateOf s) (pendingOf (s .auction)) wish (entryOf o) ⌝ }
-{
-    if ends_by_order(s, o) {
-        let state = with_new(s, o);
-        return Intake {
-            state,
-            act: Act::ENDS_BY_ORDER,
-        };
-    }
-    if is_joining(s, wish, o) {
-        let state = with_new(s, in_queue(o));
-        return Intake {
-            state,
-            act: Act::JOINS,
-        };
-    }
-    let state = with_new(s, o);
-    Intake {
-        state,
-        act: Act::GOES_ON,
-    }
-}
-
-// An order taken in.
-fn order_in(s: State, t: Order) -> Intake
-    requires { ⌜ s .clock .time ≤ 1000000000000000 ⌝ }
-    ensures { λ r. ⌜ intakeOf r ≡ orderIntake (stateOf s) (auctionOf (s .auction)) (orderTerms t) (t .wish) ⌝ }
-{
-    let o = new_order(t, number_of(s.clock));
-    if s.auction.pending {
-        return order_during(s, t.wish, o);
-    }
-    order_outside(s, t.wish, o)
+    order_outside(longs, words, o.wish, e)
 }
 
 // ---- the other kinds
 
-// "A local quote after which the derived price on the initiator's own side is strictly better than its limit ends the auction".
-fn local_in(s: State, q: Local) -> Intake
-    ensures { λ r. ⌜ intakeOf r ≡ takeIn (stateOf s) (local (localOf q)) ⌝ }
+// A local quote, and the test of the early end after it.
+fn local_in(longs: &mut [u64], words: &mut [u32], q: Local) -> u8
+    requires { ⌜ Sized (now longs) (now words) ⌝ }
+    ensures { λ r. ⌜ TakesIn longs words r (λ s. takeIn s (local (localOf q))) ⌝ }
 {
-    let quoted = market::local_quoted(s.market, q);
-    let state = with_market(s, quoted);
-    if ends_by_legs(state) {
-        return Intake {
-            state,
-            act: Act::ENDS_BY_LEGS,
-        };
+    quotes::put_local(words, q);
+    if ends_by_legs(words) {
+        return Act::ENDS_BY_LEGS;
     }
-    Intake {
-        state,
-        act: Act::GOES_ON,
-    }
+    Act::GOES_ON
 }
 
 // A national quote.
-fn national_in(s: State, q: National) -> Intake
-    ensures { λ r. ⌜ intakeOf r ≡ takeIn (stateOf s) (national (nationalOf q)) ⌝ }
+fn national_in(longs: &mut [u64], words: &mut [u32], q: National) -> u8
+    requires { ⌜ Sized (now longs) (now words) ⌝ }
+    ensures { λ r. ⌜ TakesIn longs words r (λ s. takeIn s (national (nationalOf q))) ⌝ }
 {
-    let quoted = market::national_quoted(s.market, q);
-    let state = with_market(s, quoted);
-    Intake {
-        state,
-        act: Act::GOES_ON,
-    }
+    quotes::put_national(words, q);
+    Act::GOES_ON
 }
 
-// A new response.
-fn response_in(s: State, t: Response) -> Intake
-    ensures { λ r. ⌜ intakeOf r ≡ takeIn (stateOf s) (response (responseTerms t)) ⌝ }
+// A response.
+fn response_in(longs: &mut [u64], words: &mut [u32], t: Response) -> u8
+    requires { ⌜ Sized (now longs) (now words) ⌝ }
+    ensures { λ r. ⌜ TakesIn longs words r (λ s. takeIn s (response (responseTerms t))) ⌝ }
 {
-    let state = with_new(s, new_response(t, number_of(s.clock)));
-    Intake {
-        state,
-        act: Act::GOES_ON,
-    }
+    let e = new_response(t, number_of(longs));
+    book::append(longs, words, e);
+    Act::GOES_ON
 }
 
-// A response modified.
-fn modify_in(s: State, t: Modify) -> Intake
-    ensures { λ r. ⌜ intakeOf r ≡ takeIn (stateOf s) (modify (changeOf t)) ⌝ }
+// The entry under an id replaced by a new one, the last to have arrived.
+fn replace(longs: &mut [u64], words: &mut [u32], id: u32, e: Entry)
+    requires { ⌜ Sized (now longs) (now words) ⌝ }
+    ensures { λ _. ⌜ Becomes longs words (λ s. withNew (withBook s (without id (s .book))) (entryOf e)) ⌝ }
 {
-    let k = scan::place_of(&s.book.ids, s.book.count, t.id);
-    if k < scan::shown(s.book.count) {
-        let old = book::entry_at(s.book, k);
-        let new = modified_entry(t, number_of(s.clock), old);
-        let others = with_book(s, book::removed(s.book, t.id));
-        let state = with_new(others, new);
-        return Intake {
-            state,
-            act: Act::GOES_ON,
-        };
+    book::remove(longs, words, id);
+    book::append(longs, words, e);
+}
+
+// A modification of a response.
+fn modify_in(longs: &mut [u64], words: &mut [u32], t: Modify) -> u8
+    requires { ⌜ Sized (now longs) (now words) ⌝ }
+    ensures { λ r. ⌜ TakesIn longs words r (λ s. takeIn s (modify (changeOf t))) ⌝ }
+{
+    let f = book::entry_under(longs, words, t.id);
+    if f.there {
+        let e = modified_entry(t, number_of(longs), f.entry);
+        replace(longs, words, t.id, e);
     }
-    Intake {
-        state: s,
-        act: Act::GOES_ON,
-    }
+    Act::GOES_ON
 }
 
 // A cancel.
-fn cancel_in(s: State, t: Cancel) -> Intake
-    ensures { λ r. ⌜ intakeOf r ≡ takeIn (stateOf s) (cancel (t .id) (t .participant)) ⌝ }
+fn cancel_in(longs: &mut [u64], words: &mut [u32], t: Cancel) -> u8
+    requires { ⌜ Sized (now longs) (now words) ⌝ }
+    ensures { λ r. ⌜ TakesIn longs words r (λ s. takeIn s (cancel (t .id) (t .participant))) ⌝ }
 {
-    let state = with_book(s, book::removed(s.book, t.id));
-    Intake {
-        state,
-        act: Act::GOES_ON,
-    }
+    book::remove(longs, words, t.id);
+    Act::GOES_ON
 }
 
-// "A clock message at or after the deadline ends it".
-fn clock_in(s: State) -> Intake
-    ensures { λ r. ⌜ intakeOf r ≡ takeIn (stateOf s) clock ⌝ }
+// "A clock message at or after the deadline ends it"; the state has taken its time.
+fn clock_in(longs: &mut [u64], words: &mut [u32]) -> u8
+    requires { ⌜ Sized (now longs) (now words) ⌝ }
+    ensures { λ r. ⌜ TakesIn longs words r (λ s. takeIn s clock) ⌝ }
 {
-    if refusals::is_reached(s.auction, s.clock.time) {
-        return Intake {
-            state: s,
-            act: Act::ENDS_BY_TIME,
-        };
+    let time = number::lesser_long(longs[Clock::TIME], Clock::MOST_TIME);
+    if refusals::is_reached(longs, words, time) {
+        return Act::ENDS_BY_TIME;
     }
-    Intake {
-        state: s,
-        act: Act::GOES_ON,
-    }
+    Act::GOES_ON
 }
 
-// Each kind taken in.
-fn body_in(s: State, b: Body) -> Intake
-    requires { ⌜ s .clock .time ≤ 1000000000000000 ⌝ }
-    ensures { λ r. ⌜ intakeOf r ≡ takeIn (stateOf s) (bodyOf b) ⌝ }
+// A message taken in; the state has taken its number and time.
+pub fn take_in(longs: &mut [u64], words: &mut [u32], b: Body) -> u8
+    requires { ⌜ Sized (now longs) (now words) ⌝ }
+    ensures { λ r. ⌜ TakesIn longs words r (λ s. takeIn s (bodyOf b)) ⌝ }
 {
     match b {
-        Body::Local(q) => local_in(s, q),
-        Body::National(q) => national_in(s, q),
-        Body::Order(t) => order_in(s, t),
-        Body::Response(t) => response_in(s, t),
-        Body::Modify(t) => modify_in(s, t),
-        Body::Cancel(t) => cancel_in(s, t),
-        Body::Clock => clock_in(s),
+        Body::Local(q) => local_in(longs, words, q),
+        Body::National(q) => national_in(longs, words, q),
+        Body::Order(o) => order_in(longs, words, o),
+        Body::Response(t) => response_in(longs, words, t),
+        Body::Modify(t) => modify_in(longs, words, t),
+        Body::Cancel(t) => cancel_in(longs, words, t),
+        Body::Clock => clock_in(longs, words),
     }
-}
-
-// A number that is not above the greatest.
-fn least_of(a: u64, b: u64) -> u64
-    ensures { λ r. ⌜ r ≡ min a b ⌝ }
-{
-    if a < b { a } else { b }
-}
-
-// "Each accepted message takes the next arrival number", and its time is the last accepted one.
-fn numbered(s: State, time: u64) -> State
-    ensures { λ r. ⌜ (stateOf r ≡ numbered (stateOf s) time) × (r .clock .time ≤ 1000000000000000) ⌝ }
-{
-    let clock = Clock {
-        next: least_of(s.clock.next, Clock::MOST_NUMBER) + 1,
-        time: least_of(time, Clock::MOST_TIME),
-    };
-    let mut r = s;
-    r.clock = clock;
-    r
-}
-
-// A message taken in. A number or a time above the greatest, which no accepted message has, counts as the greatest.
-pub fn take_in(s: State, m: Message) -> Intake
-    ensures { λ r. ⌜ intakeOf r ≡ takeIn (numbered (stateOf s) (m .time)) (bodyOf (m .body)) ⌝ }
-{
-    let body = m.body;
-    let state = numbered(s, m.time);
-    body_in(state, body)
 }

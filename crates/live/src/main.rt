@@ -1,30 +1,33 @@
 // live: a copy of the engine over pipes. It reads a header and its legs on standard input and answers the opening; then it answers each message record at once, until the input ends.
 ghost use mathlib.Core.Path.{_≡_};
-ghost use Prim.Native.Nat.{_≤_, min};
+ghost use Prim.Native.Nat.{_≤_};
 ghost use lib.ListN.{length};
-ghost use Rattle.types.specs.View.{stateOf};
-ghost use Rattle.feed.specs.Replies.{answerTo, Goes};
-use feed::Reply;
+ghost use Rattle.live.specs.Lives.{Fits, Answered, Turns, Lives, Runs};
+use engine::Answer;
 use libc::STDIN_FILENO;
 use libc::STDOUT_FILENO;
+use records::Record;
+use state::State;
 use tape::Header;
-use types::Opened;
-use types::State;
-use types::Strategy;
+use tape::Section;
+use types::Fill;
+use types::Opening;
 
-// The bytes of a header, of a leg and of a message record; the legs that are kept.
+// The bytes of a header, of a leg and of a message record; the legs that are kept; the numbers of 2,000 fill records.
 const HEADER: usize = Header::BYTES;
 
-const LEG: usize = 24;
+const LEG: usize = Section::LEG as usize;
 
-const RECORD: usize = 36;
+const RECORD: usize = Section::MESSAGE as usize;
 
-const LEGS: usize = Strategy::MOST_LEGS;
+const LEGS: usize = Opening::MOST_LEGS;
 
-// Between two messages: whether another one is read, and the state.
+const NUMBERS: usize = Record::NUMBERS * Fill::LEAST_ROOM;
+
+// Between two records: whether the last one was answered, and whether another one is read.
 struct Pause {
+    pub answered: bool,
     pub going: bool,
-    pub state: State,
 }
 
 impl Pause {
@@ -41,28 +44,30 @@ fn say(line: &[u8], n: usize) -> bool
     io::write_all(STDOUT_FILENO, &line[..n])
 }
 
-fn say_opening(o: Opened) -> bool {
+fn say_opening(number: u32) -> bool {
     let mut line = [0u8; 128];
-    let n = text::put_opening(&mut line, o);
+    let n = text::put_opening(&mut line, number);
     say(&line, n)
 }
 
-fn say_line(r: Reply) -> bool {
+fn say_line(list: &[u64], a: Answer, i: usize) -> bool {
     let mut line = [0u8; 128];
-    let n = feed::put_line(&mut line, r);
+    let n = feed::put_line(&mut line, list, a, i);
     say(&line, n)
 }
 
-// All lines of a reply.
-fn say_reply(first: Reply) -> bool
-    requires { ⌜ Goes first ⌝ }
-{
-    let mut r = first;
-    while r.stage < Reply::OVER {
-        if !say_line(r) {
+// All lines of an answer.
+fn say_answer(list: &[u64], a: Answer) -> bool {
+    if !say_line(list, a, 0) {
+        return false;
+    }
+    let count = a.count;
+    let mut i: usize = 0;
+    while i < count {
+        i += 1;
+        if !say_line(list, a, i) {
             return false;
         }
-        r = feed::next(r);
     }
     true
 }
@@ -92,15 +97,6 @@ fn skip_legs(count: usize) -> bool {
     true
 }
 
-fn least(a: usize, b: usize) -> usize
-    ensures { λ r. ⌜ r ≡ min a b ⌝ }
-{
-    if a < b {
-        return a;
-    }
-    b
-}
-
 // The header, and the legs behind it, of which four are kept; whether all were there.
 fn read_opening(head: &mut [u8]) -> bool
     requires { ⌜ length (now head) ≡ 136 ⌝ }
@@ -110,7 +106,7 @@ fn read_opening(head: &mut [u8]) -> bool
     }
     let h = tape::header_of(head);
     let count = h.legcount as usize;
-    let kept = least(count, LEGS);
+    let kept = number::lesser_size(count, LEGS);
     let end = HEADER + LEG * kept;
     if io::read_full(STDIN_FILENO, &mut head[HEADER..end]) < LEG * kept {
         return false;
@@ -120,44 +116,68 @@ fn read_opening(head: &mut [u8]) -> bool
 
 // ---- the messages
 
-// The answer to a record.
-fn answer(s: State, p: &[u8]) -> Pause
-    ensures { λ r. ⌜ stateOf (r .state) ≡ answerTo (stateOf s) (now (p .entry)) .state ⌝ }
+// A record, answered from the lent state, which becomes that of the answer; a refused one leaves every number as it was. Whether all its lines were taken.
+fn answer(longs: &mut [u64], words: &mut [u32], list: &mut [u64], p: &[u8]) -> bool
+    requires { ⌜ Fits (now longs) (now words) (now list) ⌝ }
+    ensures { λ _. ⌜ Answered longs words list (now (p .entry)) ⌝ }
 {
-    let r = feed::reply_to(s, p);
-    let going = say_reply(r);
-    let state = r.answer.state;
-    Pause { going, state }
+    let a = feed::answer(longs, words, list, p);
+    say_answer(list, a)
 }
 
-// The next record, and its answer.
-fn turn(s: State) -> Pause {
-    let mut p = [0u8; RECORD];
-    let n = io::read_full(STDIN_FILENO, &mut p);
+// The next record, read into the lent bytes, and its answer.
+fn turn(longs: &mut [u64], words: &mut [u32], list: &mut [u64], p: &mut [u8; RECORD]) -> Pause
+    requires { ⌜ Fits (now longs) (now words) (now list) ⌝ }
+    ensures { λ r. ⌜ Turns longs words list (now (p .exit)) r ⌝ }
+{
+    let n = io::read_full(STDIN_FILENO, p);
     if n == RECORD {
-        return answer(s, &p);
+        let going = answer(longs, words, list, p);
+        return Pause {
+            answered: true,
+            going,
+        };
     }
     if 0 < n {
         say_incomplete();
     }
     Pause {
+        answered: false,
         going: false,
-        state: s,
     }
 }
 
-// Record after record.
-fn serve(s: State) {
-    let mut state = s;
-    let mut left = Pause::MOST_RECORDS;
-    while 0 < left {
-        let at = turn(state);
-        if !at.going {
-            return;
+// Record after record; how many were answered.
+fn serve(longs: &mut [u64], words: &mut [u32], list: &mut [u64]) -> u64
+    requires { ⌜ Fits (now longs) (now words) (now list) ⌝ }
+    ensures { λ n. ⌜ Lives longs words n ⌝ }
+{
+    let mut p = [0u8; RECORD];
+    let mut n: u64 = 0;
+    while n < Pause::MOST_RECORDS {
+        let t = turn(longs, words, list, &mut p);
+        if !t.answered {
+            return n;
         }
-        state = at.state;
-        left -= 1;
+        n += 1;
+        if !t.going {
+            return n;
+        }
     }
+    n
+}
+
+// An opening, and the records behind it; how many were answered.
+fn run(longs: &mut [u64], words: &mut [u32], list: &mut [u64], head: &[u8]) -> u64
+    requires { ⌜ Fits (now longs) (now words) (now list) ⌝ }
+    ensures { λ n. ⌜ Runs longs words (now (head .entry)) n ⌝ }
+{
+    let number = feed::open(longs, words, head);
+    let said = say_opening(number);
+    if said & (number == 0) {
+        return serve(longs, words, list);
+    }
+    0
 }
 
 fn main() {
@@ -166,10 +186,8 @@ fn main() {
         say_incomplete();
         return;
     }
-    let o = feed::open(&head);
-    let said = say_opening(o);
-    if said & (o.number == 0) {
-        let state = o.state;
-        serve(state);
-    }
+    let mut longs = [0u64; State::LONGS];
+    let mut words = [0u32; State::WORDS];
+    let mut list = [0u64; NUMBERS];
+    run(&mut longs, &mut words, &mut list, &head);
 }

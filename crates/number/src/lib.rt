@@ -16,6 +16,13 @@ pub fn lesser_long(a: u64, b: u64) -> u64
     if a < b { a } else { b }
 }
 
+// The lesser of two sizes.
+pub fn lesser_size(a: usize, b: usize) -> usize
+    ensures { λ r. ⌜ r ≡ min a b ⌝ }
+{
+    if a < b { a } else { b }
+}
+
 // A number less another, not below 0.
 pub fn less(a: u32, b: u32) -> u32
     ensures { λ r. ⌜ r ≡ a - b ⌝ }

@@ -1,3 +1,5 @@
 pub mod LegLaws
 pub mod StartLaws
 pub mod OpensLaws
+pub mod AskLaws
+pub mod RowLaws

@@ -19,7 +19,7 @@ use Rattle.rules.proofs.TestLaws.{le-of, eq-of, and-left, and-right, not-true, 
 use Rattle.rules.proofs.RowLaws.{NoneOf, none-of}
 use Rattle.types.specs.View as T
 use Rattle.types.specs.View.{upto, from, noLeg, openingOf}
-use Rattle.types.specs.declared.Strategy.{Strategy}
+use Rattle.types.specs.declared.Opening.{Opening}
 use Rattle.types.proofs.TableLaws.{from-end, from-length, from-take}
 use Rattle.state.specs.Layout as L
 use Rattle.state.specs.Layout.{Sized}
@@ -54,13 +54,13 @@ good-time : (c : S.Settings) → goodSettings c ≡ true → c .openingTime ≤ 
 good-time c h = le-of (c .openingTime) mostTime (and-right (goodOthers c) (leb (c .openingTime) mostTime) h)
 
 -- four legs at most, symbols of 21 bytes, ratios and a time that the words of a state have room for
-pub record Accepted (o : Strategy) : Type 0 where
+pub record Accepted (o : Opening) : Type 0 where
   pub few : o .count ≤ 4
   pub bytes : (k : ℕ) → k < o .count → length (T.legAt o k .symbol) ≡ 21
   pub ratios : (k : ℕ) → k < o .count → T.legAt o k .ratio ≤ 9
   pub time : o .settings .time ≤ mostTime
 
-pub accepted : (o : Strategy) → openingRefusal (openingOf o) ≡ 0 → Accepted o
+pub accepted : (o : Opening) → openingRefusal (openingOf o) ≡ 0 → Accepted o
 unfolding openingRefusal
 accepted o e =
     let ls = openingOf o .legs in
@@ -90,7 +90,7 @@ unfolding upto
 no-quotes f q k zero h = refl
 no-quotes f q k (suc n) h = rw (h k (omega arith) (omega arith), no-quotes f q (k + 1) n (λ i a b. h i (omega arith) (omega arith)))
 
-module _ (longs w m : List ℕ) (o : Strategy) (z : Sized longs m) (y : Accepted o) (legs : (k : ℕ) → k < 4 → HasLeg w k (getD (o .legs) k noLeg)) (quoted : NothingQuoted w m) where
+module _ (longs w m : List ℕ) (o : Opening) (z : Sized longs m) (y : Accepted o) (legs : (k : ℕ) → k < 4 → HasLeg w k (getD (o .legs) k noLeg)) (quoted : NothingQuoted w m) where
   abbrev words : List ℕ
   words = stores (stores m (countStores (o .count))) (settingStores (o .settings))
 

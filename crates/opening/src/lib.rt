@@ -8,7 +8,7 @@ ghost use Rattle.types.specs.View.{noLeg, openingOf};
 ghost use Rattle.state.specs.Layout.{LongsSized, WordsSized, Sized};
 ghost use Rattle.state.specs.View.{stateOf};
 ghost use Rattle.state.specs.Stores.{stores};
-ghost use Rattle.opening.specs.Opens.{fits, IsOpened};
+ghost use Rattle.opening.specs.Opens.{IsOpened};
 ghost use Rattle.opening.specs.Stored.{HasSymbol, HasLeg, StoresLeg, NothingQuoted, countStores, settingStores, clockStores};
 use state::Auction;
 use state::Book;
@@ -16,9 +16,10 @@ use state::Clock;
 use state::Legs;
 use state::Market;
 use state::Settings;
-use state::State;
 use types::Leg;
-use types::Strategy;
+use types::Opening;
+
+mod strategy;
 
 // ---- legs
 
@@ -36,7 +37,7 @@ fn put_symbol(words: &mut [u32], k: usize, symbol: [u8; 21])
 {
     let start = Legs::SYMBOLS + Legs::SYMBOL_BYTES * k;
     let mut i: usize = 0;
-    while i < 21 {
+    while i < Legs::SYMBOL_BYTES {
         words[start + i] = word_of(symbol[i]);
         i += 1;
     }
@@ -55,7 +56,7 @@ fn put_leg(words: &mut [u32], k: usize, leg: Leg)
 }
 
 // All four places for legs, those beyond the count too.
-fn put_legs(words: &mut [u32], o: Strategy)
+fn put_legs(words: &mut [u32], o: Opening)
     requires { ⌜ WordsSized (now words) ⌝ }
     ensures { λ _. ⌜ ((k : ℕ) → k < 4 → HasLeg (now (words .exit)) k (getD (o .legs) k noLeg)) ⌝ }
 {
@@ -116,7 +117,7 @@ fn put_clock(longs: &mut [u64], c: types::Settings)
 }
 
 // The state that an accepted opening begins with.
-fn start(longs: &mut [u64], words: &mut [u32], o: Strategy)
+fn start(longs: &mut [u64], words: &mut [u32], o: Opening)
     requires { ⌜ Sized (now longs) (now words) × (openingRefusal (openingOf o) ≡ 0) ⌝ }
     ensures { λ _. ⌜ stateOf (now (longs .exit)) (now (words .exit)) ≡ startOf (openingOf o) ⌝ }
 {
@@ -129,18 +130,11 @@ fn start(longs: &mut [u64], words: &mut [u32], o: Strategy)
 
 // ---- the opening
 
-// Whether the slices have the places of a state.
-fn fit(longs: &[u64], words: &[u32]) -> bool
-    ensures { λ r. ⌜ r ≡ fits (now (longs .entry)) (now (words .entry)) ⌝ }
-{
-    (longs.len() == State::LONGS) & (words.len() == State::WORDS)
-}
-
-// An opening: 0, and the slices hold its state; or the number that refuses it, 10 where "what is lent is too small", and they are as they were.
-pub fn open(longs: &mut [u64], words: &mut [u32], o: Strategy) -> u32
+// An opening: 0, and the slices hold its state; or the number that refuses it, 10 for slices that are no state's, and they are as they were.
+pub fn open(longs: &mut [u64], words: &mut [u32], o: Opening) -> u32
     ensures { λ r. ⌜ IsOpened longs words (openingOf o) r ⌝ }
 {
-    if !fit(longs, words) {
+    if !state::is_sized(longs, words) {
         return 10;
     }
     let number = strategy::refusal(o);

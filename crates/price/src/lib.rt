@@ -1,12 +1,12 @@
 // Signed cents and prices as held, the cents plus 40,000,000. Signed numbers are taken apart here and nowhere else.
 ghost use mathlib.Core.Path.{_≡_};
-ghost use Prim.Native.Nat.{_+_, _-_, _<_, min};
+ghost use Prim.Native.Nat.{_+_, _<_, min};
 ghost use lib.IntN.{negsuc};
 ghost use Rattle.rules.specs.Prices.{isLimit, offset as offsetOf, cents as centsOf};
 ghost use Rattle.rules.specs.Refusals.{natural as naturalOf, goodLocal, goodNational};
 ghost use Rattle.price.specs.Signed.{signedOf};
-use types::Entry;
 use types::Fill;
+use types::Order;
 use types::Quote;
 
 // A signed number by its sign: size, or -1 - size where it is negative.
@@ -36,15 +36,9 @@ pub fn is_limit(price: i32) -> bool
 {
     let s = split(price);
     if s.negative {
-        return s.size < Entry::MOST_CENTS;
+        return s.size < Order::MOST_CENTS;
     }
-    s.size <= Entry::MOST_CENTS
-}
-
-fn less(a: u32, b: u32) -> u32
-    ensures { λ r. ⌜ r ≡ a - b ⌝ }
-{
-    if b <= a { a - b } else { 0 }
+    s.size <= Order::MOST_CENTS
 }
 
 // A price as held; one below every limit is held as 0.
@@ -53,9 +47,9 @@ pub fn offset(price: i32) -> u32
 {
     let s = split(price);
     if s.negative {
-        return less(Entry::MOST_CENTS, s.size + 1);
+        return number::less(Order::MOST_CENTS, s.size + 1);
     }
-    Entry::MOST_CENTS + s.size
+    Order::MOST_CENTS + s.size
 }
 
 // A leg's price as a number; a negative one is 0.
@@ -108,18 +102,12 @@ fn under(below: u64) -> i64
     -1 - (below as i64)
 }
 
-fn lesser(a: u64, b: u64) -> u64
-    ensures { λ r. ⌜ r ≡ min a b ⌝ }
-{
-    if a < b { a } else { b }
-}
-
 // The signed cents of a price as held.
 pub fn cents(held: u64) -> i64
     ensures { λ r. ⌜ r ≡ centsOf (min held 4611686018427387904) ⌝ }
 {
-    let p = lesser(held, Fill::MOST_HELD);
-    let zero = Entry::MOST_CENTS as u64;
+    let p = number::lesser_long(held, Fill::MOST_HELD);
+    let zero = Order::MOST_CENTS as u64;
     if p < zero {
         return under(zero - 1 - p);
     }

@@ -1,15 +1,24 @@
 // Document 01, "Tape": what tapeprint prints, through a page.
 ghost use mathlib.Core.Path.{_≡_};
-ghost use Prim.Native.Nat.{_+_, _≤_, _<_, min};
+ghost use Prim.Native.Nat.{_+_, _*_, _≤_, _<_, min};
 ghost use lib.ListN.{length, drop};
 ghost use Rattle.rules.specs.Tape.{messagesFrom};
 ghost use Rattle.rules.specs.Print.{titleLine, linesFrom};
-ghost use Rattle.types.specs.View.{stateOf};
+ghost use Rattle.rules.specs.Refusals.{leastRoom};
+ghost use Rattle.state.specs.Layout.{Sized};
+ghost use Rattle.state.specs.View.{stateOf};
+ghost use Rattle.records.specs.Records.{width};
 ghost use Rattle.text.specs.Text.{lineText, linesText};
 ghost use Rattle.session.specs.Lines.{tapeText};
 use libc::STDOUT_FILENO;
+use records::Record;
 use session::Place;
 use session::Start;
+use state::State;
+use types::Fill;
+
+// The numbers of 2,000 fill records.
+const NUMBERS: usize = Record::NUMBERS * Fill::LEAST_ROOM;
 
 // A page has room for half a page, and then for a message: 2,000 records of at most 128 bytes.
 const HALF: usize = 256_000;
@@ -56,28 +65,32 @@ fn count_up(total: u64, n: usize) -> u64
 }
 
 // The title, the messages of a tape that is not turned back, and the last line; how many bytes they are.
-fn print_messages(page: &mut [u8], tape: &[u8], b: Start) -> u64
-    requires { ⌜ length (now page) ≡ 512000 ⌝ }
-    ensures { λ r. ⌜ r ≡ min (length (lineText titleLine) + length (linesText (linesFrom 1 (stateOf (b .state)) (messagesFrom (b .count) (drop (b .at) (now (tape .entry))))))) 1000000000000000000 ⌝ }
+fn print_messages(
+    longs: &mut [u64],
+    words: &mut [u32],
+    list: &mut [u64],
+    page: &mut [u8],
+    tape: &[u8],
+    b: Start,
+) -> u64
+    requires { ⌜ Sized (now longs) (now words) × (leastRoom * width ≤ length (now list)) × (length (now page) ≡ 512000) ⌝ }
+    ensures { λ r. ⌜ r ≡ min (length (lineText titleLine) + length (linesText (linesFrom 1 (stateOf (now (longs .entry)) (now (words .entry))) (messagesFrom (b .count) (drop (b .at) (now (tape .entry))))))) 1000000000000000000 ⌝ }
 {
     let count = b.count;
     let at = session::put_title(page, 0);
-    let state = b.state;
     let mut p = Place {
         position: 0,
         next: b.at,
         at,
-        state,
     };
     let mut total: u64 = 0;
     while p.position < count {
-        p = session::run(page, tape, count, p, HALF);
+        p = session::run(longs, words, list, page, tape, count, p, HALF);
         let left = turn_page(page, p.at);
         total = count_up(total, p.at - left);
         p.at = left;
     }
-    let after = p.state;
-    let n = session::put_last(page, p.at, after);
+    let n = session::put_last(words, page, p.at);
     write_page(page, n);
     count_up(total, n)
 }
@@ -87,9 +100,12 @@ pub fn print_tape(tape: &[u8]) -> u64
     ensures { λ r. ⌜ r ≡ min (length (tapeText (now (tape .entry)))) 1000000000000000000 ⌝ }
 {
     let mut page = blank_page();
-    let b = session::begin(tape);
+    let mut longs = [0u64; State::LONGS];
+    let mut words = [0u32; State::WORDS];
+    let mut list = [0u64; NUMBERS];
+    let b = session::begin(&mut longs, &mut words, tape);
     if b.number == 0 {
-        return print_messages(&mut page, tape, b);
+        return print_messages(&mut longs, &mut words, &mut list, &mut page, tape, b);
     }
     let n = session::put_refused(&mut page, 0, 0, b.number);
     write_page(&page, n);

@@ -8,6 +8,7 @@ ghost use Rattle.rules.specs.State.{withMarket};
 ghost use Rattle.rules.specs.Step.{localQuote, nationalQuote, localIn, nationalIn};
 ghost use Rattle.types.specs.View.{quoteOf, derivedOf, localOf, nationalOf};
 ghost use Rattle.state.specs.Layout.{WordsSized};
+ghost use Rattle.state.specs.View.{ratioOf};
 ghost use Rattle.state.specs.Lent.{Tells, WordsBecome};
 ghost use Rattle.quotes.specs.Uses.{OfLeg, priceUsed, legPriceOf, mostCost, mostDerived, IsPart};
 ghost use Rattle.quotes.specs.Requoted.{Requoted};
@@ -15,10 +16,10 @@ use state::Legs;
 use state::Market;
 use state::Settings;
 use types::Derived;
-use types::Entry;
 use types::Leg;
 use types::Local;
 use types::National;
+use types::Order;
 use types::Quote;
 
 // ---- derived prices
@@ -72,13 +73,26 @@ fn size_used(words: &[u32], ask: bool, k: usize) -> u32
     }
 }
 
+// The ratio of a leg.
+fn ratio_at(words: &[u32], k: usize) -> u32
+    requires { ⌜ WordsSized (now words) × (k < 4) ⌝ }
+    ensures { λ r. ⌜ r ≡ ratioOf (now (words .entry)) k ⌝ }
+{
+    let n = words[Legs::RATIOS + k];
+    if n < Legs::MOST_RATIO {
+        n
+    } else {
+        Legs::MOST_RATIO
+    }
+}
+
 // "size divided by ratio, rounded down"; a ratio of 0 shows none, and one of 1 needs no division.
 fn units_shown(words: &[u32], ask: bool, k: usize) -> u32
     requires { ⌜ WordsSized (now words) × (k < 4) ⌝ }
     ensures { λ r. ⌜ OfLeg words k (λ l q. r ≡ unitsShown ask l q) ⌝ }
 {
     let size = size_used(words, ask, k);
-    let ratio = state::ratio_at(words, k);
+    let ratio = ratio_at(words, k);
     if ratio == 1 {
         return size;
     }
@@ -104,10 +118,7 @@ fn leg_part(words: &[u32], national: bool, ask: bool, k: usize) -> Part
     requires { ⌜ WordsSized (now words) × (k < 4) ⌝ }
     ensures { λ r. ⌜ OfLeg words k (λ l q. IsPart national ask l q r) ⌝ }
 {
-    let cost = times(
-        state::ratio_at(words, k),
-        price_used(words, national, ask, k),
-    );
+    let cost = times(ratio_at(words, k), price_used(words, national, ask, k));
     let units = units_shown(words, ask, k);
     if is_b(words, k) {
         Part {
@@ -137,7 +148,7 @@ fn priced(words: &[u32], national: bool, ask: bool) -> Derived
     ensures { λ r. ⌜ Tells words (λ s. (r .price ≡ net (priceUsed national ask) (s .strategy .legs) (s .market)) × (r .units ≡ least ask (s .strategy .legs) (s .market))) × (r .price ≤ mostDerived) ⌝ }
 {
     let n = state::leg_count(words);
-    let mut bought = Entry::MOST_CENTS as u64;
+    let mut bought = Order::MOST_CENTS as u64;
     if n == 0 {
         return Derived {
             price: bought,
@@ -240,10 +251,10 @@ fn amount_for(words: &[u32], p: LegPrice) -> u32
     requires { ⌜ WordsSized (now words) ⌝ }
     ensures { λ r. ⌜ Tells words (λ s. r ≡ amountFor (s .strategy .settings) (legPriceOf p)) ⌝ }
 {
-    if p.mpv == 1 {
+    if p.mpv == Leg::CENT as u32 {
         return words[Settings::AMOUNTS];
     }
-    if p.mpv == 5 {
+    if p.mpv == Leg::NICKEL as u32 {
         return words[Settings::AMOUNTS + 1];
     }
     words[Settings::AMOUNTS + 2]
@@ -258,10 +269,10 @@ fn smallest_ratio(words: &[u32]) -> u32
     if n == 0 {
         return 0;
     }
-    let mut t = state::ratio_at(words, 0);
+    let mut t = ratio_at(words, 0);
     let mut k = 1;
     while k < n {
-        t = number::lesser(t, state::ratio_at(words, k));
+        t = number::lesser(t, ratio_at(words, k));
         k += 1;
     }
     t
@@ -349,7 +360,7 @@ fn lower_leg(words: &mut [u32], ask: bool, units: u32, k: usize)
     ensures { λ _. ⌜ OfLeg words k (λ l q. Requoted k (lowerQuote (usesAsk ask l) (l .ratio * units) q) (now (words .entry)) (now (words .exit))) ⌝ }
 {
     let side = uses_ask(words, ask, k);
-    let n = times(state::ratio_at(words, k), units);
+    let n = times(ratio_at(words, k), units);
     put_quote(words, k, lower_quote(side, n, quote_at(words, k)));
 }
 

@@ -1,32 +1,26 @@
-// Document 01, "Where a message is turned back": the rows for messages, read from the top.
-// The conditions of a row are all looked at: an accepted message needs each of them.
+// Document 01, "Where a message is turned back": the rows for messages, read from the top, in the words of a state.
+// The conditions of a kind's row are all looked at: an accepted message needs each of them.
 ghost use mathlib.Core.Path.{_≡_};
-ghost use mathlib.Core.Bool.{_||_};
-ghost use Prim.Native.Nat.{ℕ};
-ghost use lib.Dec.{ltb};
 ghost use Rattle.rules.specs.Basics.{pick, between, firstOf};
-ghost use Rattle.rules.specs.Strategy.{mostTime, mostNumber};
-ghost use Rattle.rules.specs.Book.{Entry};
-ghost use Rattle.rules.specs.State.{State, isPending, reached};
-ghost use Rattle.rules.specs.Refusals.{isClock, goodFields, crossed, leastRoom, localRow, nationalRow, orderRow, responseRow, modifyRow, cancelRow, kindRow, refusal};
-ghost use Rattle.types.specs.View.{strategyOf, shownBy, auctionOf, localOf, nationalOf, orderTerms, responseTerms, changeOf, bodyOf, messageOf};
-ghost use Rattle.scan.specs.Columns.{HasIds, HasParticipants, HasStages};
-ghost use Rattle.refusals.specs.Shown.{shownState};
-use types::Auction;
+ghost use Rattle.rules.specs.State.{reached};
+ghost use Rattle.rules.specs.Refusals.{isClock, goodFields, crossed, everyRow, localRow, nationalRow, orderRow, responseRow, modifyRow, cancelRow, kindRow, refusal};
+ghost use Rattle.types.specs.View.{localOf, nationalOf, orderTerms, responseTerms, changeOf, bodyOf, messageOf};
+ghost use Rattle.state.specs.Layout.{Sized, LongsSized, WordsSized};
+ghost use Rattle.state.specs.View.{clockOf};
+ghost use Rattle.state.specs.Lent.{Tells, TellsBoth};
+use state::Auction;
+use state::Book;
+use state::Clock;
 use types::Body;
-use types::Book;
 use types::Cancel;
-use types::Clock;
 use types::Fill;
 use types::Leg;
 use types::Local;
-use types::Market;
 use types::Message;
 use types::Modify;
 use types::National;
 use types::Order;
 use types::Response;
-use types::Strategy;
 
 // "First that applies, reading down": a condition and its number, and what the rows below say.
 fn first(holds: bool, number: u32, below: u32) -> u32
@@ -47,10 +41,11 @@ fn is_crossed(q: Local) -> bool
 }
 
 // "20 no such leg; 21 price or size; 22 both local sides, bid not below ask".
-fn local_row(strategy: Strategy, q: Local) -> u32
-    ensures { λ r. ⌜ ((s : State) → s .strategy ≡ strategyOf strategy → r ≡ firstOf (localRow s (localOf q))) ⌝ }
+fn local_row(words: &[u32], q: Local) -> u32
+    requires { ⌜ WordsSized (now words) ⌝ }
+    ensures { λ r. ⌜ Tells words (λ s. r ≡ firstOf (localRow s (localOf q))) ⌝ }
 {
-    let legs = market::leg_count(strategy);
+    let legs = state::leg_count(words);
     let bid = price::good_local(q.bid, q.bidsize);
     let ask = price::good_local(q.ask, q.asksize);
     let under = first(is_crossed(q), 22, 0);
@@ -59,10 +54,11 @@ fn local_row(strategy: Strategy, q: Local) -> u32
 }
 
 // The same for national sides, which "may lock or cross".
-fn national_row(strategy: Strategy, q: National) -> u32
-    ensures { λ r. ⌜ ((s : State) → s .strategy ≡ strategyOf strategy → r ≡ firstOf (nationalRow s (nationalOf q))) ⌝ }
+fn national_row(words: &[u32], q: National) -> u32
+    requires { ⌜ WordsSized (now words) ⌝ }
+    ensures { λ r. ⌜ Tells words (λ s. r ≡ firstOf (nationalRow s (nationalOf q))) ⌝ }
 {
-    let legs = market::leg_count(strategy);
+    let legs = state::leg_count(words);
     let bid = price::good_national(q.bid);
     let ask = price::good_national(q.ask);
     let below = first(!(bid & ask), 21, 0);
@@ -77,7 +73,7 @@ fn good_fields(side: u8, id: u32, participant: u32, units: u32, cents: i32) -> b
 {
     let limit = price::is_limit(cents);
     let sided = (side == Leg::B) | (side == Leg::S);
-    let some = (1 <= units) & (units <= types::Entry::MOST_UNITS);
+    let some = (1 <= units) & (units <= Order::MOST_UNITS);
     sided & limit & (0 < id) & (0 < participant) & some
 }
 
@@ -89,21 +85,15 @@ fn good_account(account: u8) -> bool
 }
 
 // "30 side, account, limit, or id or participant 0, or units not 1 to 999,999; 31 id open as order or response; 32 32 orders open; 33 filter".
-fn order_row<'a>(
-    ids: &'a [u32; 64],
-    stages: &'a [u8; 64],
-    n: usize,
-    strategy: Strategy,
-    market: Market,
-    o: Order,
-) -> u32
-    ensures { λ r. ⌜ ((f : ℕ → Entry) → HasIds f (now (ids .entry)) → HasStages f (now (stages .entry)) → (a : Auction) (c : Clock) → r ≡ firstOf (orderRow (shownState strategy market (shownBy f n) a c) (orderTerms o))) ⌝ }
+fn order_row(words: &[u32], o: Order) -> u32
+    requires { ⌜ WordsSized (now words) ⌝ }
+    ensures { λ r. ⌜ Tells words (λ s. r ≡ firstOf (orderRow s (orderTerms o))) ⌝ }
 {
     let account = good_account(o.account);
     let fields = good_fields(o.side, o.id, o.participant, o.units, o.price);
-    let taken = scan::is_open(ids, n, o.id);
-    let counts = scan::open_counts(stages, n);
-    let far = market::filtered(strategy, market, o.side == Leg::B, price::offset(o.price));
+    let taken = book::is_open(words, o.id);
+    let counts = book::open_counts(words);
+    let far = quotes::filtered(words, o.side == Leg::B, price::offset(o.price));
     let last = first(far, 33, 0);
     let under = first(Book::MOST_ORDERS <= counts.orders, 32, last);
     let below = first(taken, 31, under);
@@ -111,19 +101,15 @@ fn order_row<'a>(
 }
 
 // "40 no auction; 41 as 30, over the fields used; 42 new: id open; 43 new: 32 open".
-fn response_row<'a>(
-    ids: &'a [u32; 64],
-    stages: &'a [u8; 64],
-    n: usize,
-    pending: bool,
-    t: Response,
-) -> u32
-    ensures { λ r. ⌜ ((f : ℕ → Entry) → HasIds f (now (ids .entry)) → HasStages f (now (stages .entry)) → (s : State) → s .book ≡ shownBy f n → isPending (s .auction) ≡ pending → r ≡ firstOf (responseRow s (responseTerms t))) ⌝ }
+fn response_row(words: &[u32], t: Response) -> u32
+    requires { ⌜ WordsSized (now words) ⌝ }
+    ensures { λ r. ⌜ Tells words (λ s. r ≡ firstOf (responseRow s (responseTerms t))) ⌝ }
 {
+    let pending = state::is_pending(words);
     let account = good_account(t.account);
     let fields = good_fields(t.side, t.id, t.participant, t.units, t.price);
-    let taken = scan::is_open(ids, n, t.id);
-    let counts = scan::open_counts(stages, n);
+    let taken = book::is_open(words, t.id);
+    let counts = book::open_counts(words);
     let last = first(Book::MOST_RESPONSES <= counts.responses, 43, 0);
     let under = first(taken, 42, last);
     let below = first(!(account & fields), 41, under);
@@ -131,66 +117,48 @@ fn response_row<'a>(
 }
 
 // "42 .. modify: no response of that id and participant".
-fn modify_row<'a>(
-    ids: &'a [u32; 64],
-    participants: &'a [u32; 64],
-    stages: &'a [u8; 64],
-    n: usize,
-    pending: bool,
-    t: Modify,
-) -> u32
-    ensures { λ r. ⌜ ((f : ℕ → Entry) → HasIds f (now (ids .entry)) → HasParticipants f (now (participants .entry)) → HasStages f (now (stages .entry)) → (s : State) → s .book ≡ shownBy f n → isPending (s .auction) ≡ pending → r ≡ firstOf (modifyRow s (changeOf t))) ⌝ }
+fn modify_row(words: &[u32], t: Modify) -> u32
+    requires { ⌜ WordsSized (now words) ⌝ }
+    ensures { λ r. ⌜ Tells words (λ s. r ≡ firstOf (modifyRow s (changeOf t))) ⌝ }
 {
+    let pending = state::is_pending(words);
     let fields = good_fields(t.side, t.id, t.participant, t.units, t.price);
-    let known = scan::standing_of(ids, participants, stages, n, t.id, t.participant);
+    let known = book::standing_of(words, t.id, t.participant);
     let under = first(!known.response, 42, 0);
     let below = first(!fields, 41, under);
     first(!pending, 40, below)
 }
 
 // "50 no open order of that id and participant; 51 in the queue".
-fn cancel_row<'a>(
-    ids: &'a [u32; 64],
-    participants: &'a [u32; 64],
-    stages: &'a [u8; 64],
-    n: usize,
-    t: Cancel,
-) -> u32
-    ensures { λ r. ⌜ ((f : ℕ → Entry) → HasIds f (now (ids .entry)) → HasParticipants f (now (participants .entry)) → HasStages f (now (stages .entry)) → (s : State) → s .book ≡ shownBy f n → r ≡ firstOf (cancelRow s (t .id) (t .participant))) ⌝ }
+fn cancel_row(words: &[u32], t: Cancel) -> u32
+    requires { ⌜ WordsSized (now words) ⌝ }
+    ensures { λ r. ⌜ Tells words (λ s. r ≡ firstOf (cancelRow s (t .id) (t .participant))) ⌝ }
 {
-    let known = scan::standing_of(ids, participants, stages, n, t.id, t.participant);
+    let known = book::standing_of(words, t.id, t.participant);
     let below = first(known.queued, 51, 0);
     first(!known.order, 50, below)
 }
 
-// ---- every message
-
 // The row of the message's kind; a clock has none.
-fn kind_row<'a>(
-    ids: &'a [u32; 64],
-    participants: &'a [u32; 64],
-    stages: &'a [u8; 64],
-    n: usize,
-    strategy: Strategy,
-    market: Market,
-    auction: Auction,
-    b: Body,
-) -> u32
-    ensures { λ r. ⌜ ((f : ℕ → Entry) → HasIds f (now (ids .entry)) → HasParticipants f (now (participants .entry)) → HasStages f (now (stages .entry)) → (c : Clock) → r ≡ firstOf (kindRow (shownState strategy market (shownBy f n) auction c) (bodyOf b))) ⌝ }
+fn kind_row(words: &[u32], b: Body) -> u32
+    requires { ⌜ WordsSized (now words) ⌝ }
+    ensures { λ r. ⌜ Tells words (λ s. r ≡ firstOf (kindRow s (bodyOf b))) ⌝ }
 {
     match b {
-        Body::Local(q) => local_row(strategy, q),
-        Body::National(q) => national_row(strategy, q),
-        Body::Order(o) => order_row(ids, stages, n, strategy, market, o),
-        Body::Response(t) => response_row(ids, stages, n, auction.pending, t),
-        Body::Modify(t) => modify_row(ids, participants, stages, n, auction.pending, t),
-        Body::Cancel(t) => cancel_row(ids, participants, stages, n, t),
+        Body::Local(q) => local_row(words, q),
+        Body::National(q) => national_row(words, q),
+        Body::Order(o) => order_row(words, o),
+        Body::Response(t) => response_row(words, t),
+        Body::Modify(t) => modify_row(words, t),
+        Body::Cancel(t) => cancel_row(words, t),
         Body::Clock => 0,
     }
 }
 
+// ---- every message
+
 // Whether a message is a clock.
-pub fn is_clock(b: Body) -> bool
+fn is_clock(b: Body) -> bool
     ensures { λ r. ⌜ r ≡ isClock (bodyOf b) ⌝ }
 {
     match b {
@@ -205,51 +173,44 @@ pub fn is_clock(b: Body) -> bool
 }
 
 // "deadline reached".
-pub fn is_reached(a: Auction, time: u64) -> bool
-    ensures { λ r. ⌜ r ≡ reached (auctionOf a) time ⌝ }
+pub fn is_reached(longs: &[u64], words: &[u32], time: u64) -> bool
+    requires { ⌜ Sized (now longs) (now words) ⌝ }
+    ensures { λ r. ⌜ TellsBoth longs words (λ s. r ≡ reached (s .auction) time) ⌝ }
 {
-    if a.pending {
-        return a.deadline <= time;
-    }
-    false
+    state::is_set(words[Auction::PENDING]) & (longs[Auction::DEADLINE] <= time)
+}
+
+// The last accepted time.
+fn last_time(longs: &[u64]) -> u64
+    requires { ⌜ LongsSized (now longs) ⌝ }
+    ensures { λ r. ⌜ r ≡ clockOf (now (longs .entry)) .time ⌝ }
+{
+    number::lesser_long(longs[Clock::TIME], Clock::MOST_TIME)
 }
 
 // "10 fill list under 2,000 places; 11 time above 10^15 or before the last accepted time; 12 next number above 10^15; 13 deadline reached and not a clock".
-fn every_row(c: Clock, time: u64, over: bool, room: usize, below: u32) -> u32
-    ensures { λ r. ⌜ r ≡ pick (ltb room leastRoom) 10 (pick (ltb mostTime time || ltb time (c .time)) 11 (pick (ltb mostNumber (c .next)) 12 (pick over 13 below))) ⌝ }
+fn every_row(longs: &[u64], words: &[u32], m: Message, room: usize) -> u32
+    requires { ⌜ Sized (now longs) (now words) ⌝ }
+    ensures { λ r. ⌜ TellsBoth longs words (λ s. r ≡ firstOf (everyRow s (messageOf m) room)) ⌝ }
 {
-    let last = first(over, 13, below);
-    let under = first(Clock::MOST_NUMBER < c.next, 12, last);
-    let late = first((Clock::MOST_TIME < time) | (time < c.time), 11, under);
-    first(room < Fill::LEAST_ROOM, 10, late)
+    let body = m.body;
+    let over = is_reached(longs, words, m.time) & !is_clock(body);
+    let old = m.time < last_time(longs);
+    let last = first(over, 13, 0);
+    let under = first(Clock::MOST_NUMBER < longs[Clock::NEXT], 12, last);
+    let below = first((Clock::MOST_TIME < m.time) | old, 11, under);
+    first(room < Fill::LEAST_ROOM, 10, below)
 }
 
 // The number that turns a message back, given the length of its fill list; 0 for none.
-pub fn refusal<'a>(
-    ids: &'a [u32; 64],
-    participants: &'a [u32; 64],
-    stages: &'a [u8; 64],
-    n: usize,
-    strategy: Strategy,
-    market: Market,
-    auction: Auction,
-    clock: Clock,
-    m: Message,
-    room: usize,
-) -> u32
-    ensures { λ r. ⌜ ((f : ℕ → Entry) → HasIds f (now (ids .entry)) → HasParticipants f (now (participants .entry)) → HasStages f (now (stages .entry)) → r ≡ refusal (shownState strategy market (shownBy f n) auction clock) (messageOf m) room) ⌝ }
+pub fn refusal(longs: &[u64], words: &[u32], m: Message, room: usize) -> u32
+    requires { ⌜ Sized (now longs) (now words) ⌝ }
+    ensures { λ r. ⌜ TellsBoth longs words (λ s. r ≡ refusal s (messageOf m) room) ⌝ }
 {
+    let early = every_row(longs, words, m, room);
+    if 0 < early {
+        return early;
+    }
     let body = m.body;
-    let below = kind_row(
-        ids,
-        participants,
-        stages,
-        n,
-        strategy,
-        market,
-        auction,
-        body,
-    );
-    let over = is_reached(auction, m.time) & !is_clock(body);
-    every_row(clock, m.time, over, room, below)
+    kind_row(words, body)
 }

@@ -1,5 +1,5 @@
 pub mod SetsLaws
 pub mod PutsLaws
 pub mod LineLaws
-pub mod LeftLaws
+pub mod RunLaws
 pub mod TapeLaws

@@ -1,38 +1,60 @@
--- The bytes of a tape's lines, and the output that they are written into.
+-- The lines of a tape's messages, and what is made of the lent slices and of the output: by a tape's opening, by one message, by one after another.
 use mathlib.Core.Path.{_≡_}
 use mathlib.Core.List.{List, [], _∷_, _++_}
-use Prim.Native.Nat.{ℕ, _+_, _-_, _*_, _≤_, _<_, min}
+use Prim.Native.Nat.{ℕ, zero, suc, _+_, _-_, _≤_, _<_, min, max}
 use lib.Dec.{eqb}
 use lib.ListN.{length, drop}
 use lib.Seq.{sets}
+use denote.Ref.{now}
 use Rattle.rules.specs.Basics.{pick}
-use Rattle.rules.specs.Messages as M
-use Rattle.rules.specs.State as T
-use Rattle.rules.specs.Refusals.{leastRoom}
-use Rattle.rules.specs.Execution.{Reply}
-use Rattle.rules.specs.Step.{takeIn, follow, recordsOf, step}
-use Rattle.rules.specs.Tape.{messagesFrom}
-use Rattle.rules.specs.Print.{Line, titleLine, refusedLine, fillLines, refusedLines, linesFrom, linesOf}
-use Rattle.types.specs.declared.State.{State}
-use Rattle.types.specs.declared.Message.{Message}
-use Rattle.types.specs.View.{stateOf, bodyOf}
-use Rattle.intake.specs.Taken.{numbered}
+use Rattle.rules.specs.Strategy.{openingRefusal}
+use Rattle.rules.specs.Messages.{Message}
+use Rattle.rules.specs.State.{State}
+use Rattle.rules.specs.Refusals.{leastRoom, refusal}
+use Rattle.rules.specs.Step.{step}
+use Rattle.rules.specs.Run.{opening, Sent, after}
+use Rattle.rules.specs.Tape.{headerOf, messagesFrom, tapeRefusal, strategyOf}
+use Rattle.rules.specs.Print.{Line, fillLines, refusedLines, linesOf}
+use Rattle.state.specs.View.{stateOf}
+use Rattle.state.specs.Lent.{Lent}
+use Rattle.opening.specs.Opens.{openedBy}
+use Rattle.tape.specs.View.{placeAfter}
 use Rattle.text.specs.Text.{lineText, linesText}
 use Rattle.session.specs.declared.Start.{Start}
-use Rattle.session.specs.declared.Told.{Told}
 use Rattle.session.specs.declared.Place.{Place}
+
+-- ---- lines
 
 -- the bytes that tapeprint prints for a tape
 unfoldable pub tapeText : List ℕ → List ℕ
 tapeText t = linesText (linesOf t)
 
--- the lines of a tape that begins so
-abbrev pub startLines : List ℕ → Start → List Line
-startLines t b = pick (eqb (b .number) 0) (titleLine ∷ linesFrom 1 (stateOf (b .state)) (messagesFrom (b .count) (drop (b .at) t))) (refusedLine 0 (b .number) ∷ [])
+-- the lines of the message at tape position k: its records, or the refused line
+abbrev pub messageLines : ℕ → State → Message → List Line
+messageLines k s m = let a = step s m leastRoom in fillLines (a .fills) ++ refusedLines k (a .outcome)
 
--- the bytes of the message at tape position k: its records, or the refused line
-abbrev pub messageText : ℕ → T.State → M.Message → List ℕ
-messageText k s m = let a = step s m leastRoom in linesText (fillLines (a .fills) ++ refusedLines k (a .outcome))
+-- their bytes
+abbrev pub messageText : ℕ → State → Message → List ℕ
+messageText k s m = linesText (messageLines k s m)
+
+-- the lines of messages from tape position k on, without the last line
+unfoldable pub toldLines : ℕ → State → List Message → List Line
+toldLines k s [] = []
+toldLines k s (m ∷ ms) = messageLines k s m ++ toldLines (k + 1) (step s m leastRoom .state) ms
+
+-- their bytes
+abbrev pub toldText : ℕ → State → List Message → List ℕ
+toldText k s ms = linesText (toldLines k s ms)
+
+-- messages, each with a fill list of 2,000 places
+abbrev pub sent : List Message → List Sent
+sent [] = []
+sent (m ∷ ms) = record { message = m; room = leastRoom } ∷ sent ms
+
+-- the place of a tape behind n message records
+abbrev pub placeBehind : List ℕ → ℕ → ℕ → ℕ
+placeBehind t zero at = at
+placeBehind t (suc n) at = placeBehind t n (placeAfter t at)
 
 -- the bytes of a line, at most
 abbrev pub mostLine : ℕ
@@ -42,50 +64,65 @@ mostLine = 128
 abbrev pub mostText : ℕ
 mostText = 256000
 
--- the bytes of the records of some turns
-abbrev pub turnsText : Reply → List ℕ
-turnsText q = linesText (fillLines (recordsOf (q .turns)))
-
--- they are no more than their lines may have
-abbrev pub Few : Reply → Type 0
-Few q = length (turnsText q) ≤ mostLine * length (recordsOf (q .turns))
-
--- what a message sets off once it is taken in
-abbrev pub setOff : State → Message → Reply
-setOff s m = let i = takeIn (numbered (stateOf s) (m .time)) (bodyOf (m .body)) in follow (i .state) (i .act)
-
--- the bytes that are left behind i messages of n, from a place of the tape and a state on
-abbrev pub leftText : List ℕ → ℕ → ℕ → ℕ → T.State → List ℕ
-leftText tape n i at s = linesText (linesFrom (i + 1) s (messagesFrom (n - i) (drop at tape)))
-
--- the same at a place
-abbrev pub leftAt : List ℕ → ℕ → Place → List ℕ
-leftAt tape n p = leftText tape n (p .position) (p .next) (stateOf (p .state))
+-- ---- the output
 
 -- an output with these bytes from a place on, as far as it has room, and the place behind them
 pub record Puts (text lent : List ℕ) (at r : ℕ) (out : List ℕ) : Type 0 where
   pub bytes : out ≡ sets lent at text
   pub place : r ≡ min (at + length text) (length lent)
 
--- the same of a line
-abbrev pub PutsLine : Line → List ℕ → ℕ → ℕ → List ℕ → Type 0
-PutsLine line lent at r out = Puts (lineText line) lent at r out × (length (lineText line) ≤ mostLine)
+-- the same of some lines, which have at most so many bytes
+abbrev pub PutsLines : List Line → ℕ → Lent → ℕ → ℕ → Type 0
+PutsLines lines most out at r = Puts (linesText lines) (now (out .entry)) at r (now (out .exit)) × (length (linesText lines) ≤ most)
 
--- bytes put, and the state after a message
-pub record Tells (text : List ℕ) (after : T.State) (lent : List ℕ) (at : ℕ) (r : Told) (out : List ℕ) : Type 0 where
-  pub puts : Puts text lent at (r .at) out
-  pub state : stateOf (r .state) ≡ after
+-- and of one line
+abbrev pub PutsLine : Line → Lent → ℕ → ℕ → Type 0
+PutsLine line out at r = Puts (lineText line) (now (out .entry)) at r (now (out .exit)) × (length (lineText line) ≤ mostLine)
 
--- an output, written up to a place, and bytes that are left: with them it comes to this text in the output as it was lent
-pub record Toward (text lent : List ℕ) (at : ℕ) (rest out : List ℕ) (place : ℕ) : Type 0 where
-  pub same : length out ≡ length lent
-  pub bytes : sets out place rest ≡ sets lent at text
-  pub count : min (place + length rest) (length lent) ≡ min (at + length text) (length lent)
+-- ---- a tape begins
 
--- messages of n are told from one place on up to another: all of them, or as many as it takes to pass a place of the output; where the output has room for one message more, no byte is left out
-pub record Runs (tape : List ℕ) (n : ℕ) (p : Place) (most : ℕ) (lent : List ℕ) (r : Place) (out : List ℕ) : Type 0 where
-  pub toward : Toward (leftAt tape n p) lent (p .at) (leftAt tape n r) out (r .at)
-  pub room : p .at ≤ length lent → r .at ≤ length out
-  pub end : r .at ≤ most → n ≤ r .position
-  pub on : p .position < n → p .at ≤ most → p .position < r .position
-  pub whole : most + mostText ≤ length lent → p .at ≤ most + mostText → (r .at ≤ most + mostText) × (r .at + length (leftAt tape n r) ≡ p .at + length (leftAt tape n p))
+-- the number that turns back the tape, or else its opening's; the message count and where the first one starts; where the tape is not turned back the slices hold the state that its opening begins with, and with a number above 0 they are as they were
+pub record Begins (longs words tape longs′ words′ : List ℕ) (r : Start) : Type 0 where
+  pub number : r .number ≡ pick (eqb (tapeRefusal tape) 0) (openingRefusal (strategyOf tape)) (tapeRefusal tape)
+  pub count : r .count ≡ headerOf tape .messageCount
+  pub at : r .at ≡ headerOf tape .messageOffset
+  pub opened : tapeRefusal tape ≡ 0 → openedBy (r .number) (stateOf longs′ words′) ≡ opening (strategyOf tape)
+  pub refused : 0 < r .number → (longs′ ≡ longs) × (words′ ≡ words)
+
+-- ---- a message
+
+-- the message at tape position k is told: its bytes, the state after it; under a refusal every number is as it was
+pub record IsTold (k : ℕ) (m : Message) (longs words list lent : List ℕ) (at : ℕ) (longs′ words′ list′ out : List ℕ) (r : ℕ) : Type 0 where
+  pub puts : Puts (messageText k (stateOf longs words) m) lent at r out
+  pub few : length (messageText k (stateOf longs words) m) ≤ mostText
+  pub state : stateOf longs′ words′ ≡ step (stateOf longs words) m leastRoom .state
+  pub refused : 0 < refusal (stateOf longs words) m leastRoom → (longs′ ≡ longs) × (words′ ≡ words) × (list′ ≡ list)
+
+-- ---- message after message
+
+-- the messages of n between two places of a tape are told: their bytes, the state after them, and the place behind them; none of them but the last passes a place of the output, and where the output has room for one message more, no byte is left out
+pub record AreTold (tape : List ℕ) (n : ℕ) (p : Place) (most : ℕ) (s : State) (lent : List ℕ) (s′ : State) (r : Place) (out : List ℕ) : Type 0 where
+  pub puts : Puts (toldText (p .position + 1) s (messagesFrom (r .position - p .position) (drop (p .next) tape))) lent (p .at) (r .at) out
+  pub state : s′ ≡ after s (sent (messagesFrom (r .position - p .position) (drop (p .next) tape)))
+  pub next : r .next ≡ placeBehind tape (r .position - p .position) (p .next)
+  pub inside : (p .position ≤ r .position) × (r .position ≤ max (p .position) n)
+  pub before : (j : ℕ) → j < r .position - p .position → min (p .at + length (toldText (p .position + 1) s (messagesFrom j (drop (p .next) tape)))) (length lent) ≤ most
+  pub whole : most + mostText ≤ length lent → p .at ≤ most + mostText → p .at + length (toldText (p .position + 1) s (messagesFrom (r .position - p .position) (drop (p .next) tape))) ≤ most + mostText
+
+-- as many are told as it takes to pass that place, or all
+pub record Runs (tape : List ℕ) (n : ℕ) (p : Place) (most : ℕ) (s : State) (lent : List ℕ) (s′ : State) (r : Place) (out : List ℕ) : Type 0 where
+  pub told : AreTold tape n p most s lent s′ r out
+  pub end : r .position < n → most < r .at
+
+-- ---- the same said of the lent slices, for contracts
+
+abbrev pub IsBegun : Lent → Lent → Lent → Start → Type 0
+IsBegun longs words tape r = Begins (now (longs .entry)) (now (words .entry)) (now (tape .entry)) (now (longs .exit)) (now (words .exit)) r
+
+abbrev pub Tells : Lent → Lent → Lent → Lent → ℕ → ℕ → Message → ℕ → Type 0
+Tells longs words list out at k m r =
+    IsTold k m (now (longs .entry)) (now (words .entry)) (now (list .entry)) (now (out .entry)) at (now (longs .exit)) (now (words .exit)) (now (list .exit)) (now (out .exit)) r
+
+abbrev pub IsRun : Lent → Lent → Lent → Lent → ℕ → Place → ℕ → Place → Type 0
+IsRun longs words out tape n p most r =
+    Runs (now (tape .entry)) n p most (stateOf (now (longs .entry)) (now (words .entry))) (now (out .entry)) (stateOf (now (longs .exit)) (now (words .exit))) r (now (out .exit))

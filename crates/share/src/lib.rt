@@ -7,7 +7,7 @@ ghost use Rattle.rules.specs.Share.{parts, gots, lefts, shares, inTurn};
 ghost use Rattle.share.specs.Loops.{maxFrom};
 
 // One slot for the legs, and one for each place of the book.
-const SLOTS: usize = 1 + types::Book::MOST_ENTRIES;
+const SLOTS: usize = 1 + state::Book::MOST_ENTRIES;
 
 // How many slots a count shows.
 pub fn shown(n: usize) -> usize

@@ -4,10 +4,13 @@ use mathlib.Core.Bool.{Bool, true, false}
 use mathlib.Core.List.{List, [], _∷_}
 use Prim.Native.Nat.{ℕ, _+_, _*_, _≤_, _<_}
 use native.Mathlib.Omega.{arith}
-use lib.ListN.{getD}
+use lib.Dec.{eqb}
+use lib.ListN.{length, getD}
 use Rattle.rules.specs.Basics.{pick}
 use Rattle.rules.specs.State.{none, pending, stateFrom, withBook, withMarket, withAuction, isPending}
+use Rattle.rules.proofs.TestLaws.{eq-of, and-left, and-right}
 use Rattle.state.specs.Layout as L
+use Rattle.state.specs.Layout.{Sized, isSized}
 use Rattle.state.specs.View.{flag, entryAt, openCount, entriesOf, legAt, legCount, legsOf, quoteAt, marketOf, settingsOf, strategyOf, auctionOf, clockOf, stateOf}
 use Rattle.state.specs.Stores.{Kept}
 use Rattle.state.proofs.TableLaws.{from-same}
@@ -139,3 +142,11 @@ pending-flag longs words = go (flag (getD words L.pending 0))
     go : (b : Bool) → b ≡ isPending (pick b (pending (record { buy = flag (getD words L.buy 0); deadline = getD longs L.deadline 0; start = record { price = getD longs L.startPrice 0; units = getD words L.startUnits 0 } ∷ [] })) none)
     go true = refl
     go false = refl
+
+-- ---- slices of a state's lengths
+
+pub sized-so : (longs words : List ℕ) → isSized longs words ≡ true → Sized longs words
+sized-so longs words h = (
+  eq-of (length longs) 70 (and-left (eqb (length longs) 70) (eqb (length words) 580) h),
+  eq-of (length words) 580 (and-right (eqb (length longs) 70) (eqb (length words) 580) h),
+)

@@ -1,7 +1,9 @@
 -- Where the numbers of a state stand in its two slices; the constants of the code have the same names.
 use mathlib.Core.Path.{_≡_}
+use mathlib.Core.Bool.{Bool, _&&_}
 use mathlib.Core.List.{List}
 use Prim.Native.Nat.{ℕ}
+use lib.Dec.{eqb}
 use lib.ListN.{length}
 
 -- the longs of a state
@@ -15,6 +17,10 @@ WordsSized words = length words ≡ 580
 -- both
 abbrev pub Sized : List ℕ → List ℕ → Type 0
 Sized longs words = LongsSized longs × WordsSized words
+
+-- the same as a test
+abbrev pub isSized : List ℕ → List ℕ → Bool
+isSized longs words = eqb (length longs) 70 && eqb (length words) 580
 
 -- ---- book
 

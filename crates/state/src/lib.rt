@@ -1,11 +1,9 @@
 // One strategy's state in two lent slices: longs of 64 bits and words of 32 bits.
 // Where a number stands is a constant of the thing that it belongs to. What the slices stand for in the rules is their view, `stateOf` in specs/View.antt: every value of every word has a meaning there.
 ghost use mathlib.Core.Path.{_≡_};
-ghost use Prim.Native.Nat.{_+_, _<_};
 ghost use Rattle.rules.specs.State.{isPending};
-ghost use Rattle.state.specs.Layout.{Sized, WordsSized};
-ghost use Rattle.state.specs.View.{flag, entryOf, entryAt, openCount, legCount, ratioOf};
-ghost use Rattle.state.specs.Stores.{putLongs, putWords};
+ghost use Rattle.state.specs.Layout.{WordsSized, isSized};
+ghost use Rattle.state.specs.View.{flag, openCount, legCount};
 ghost use Rattle.state.specs.Lent.{Tells};
 
 // The sizes of the two slices.
@@ -151,6 +149,13 @@ impl Stage {
     pub const RESPONSE: u32 = 3;
 }
 
+// Whether two slices are as long as a state's.
+pub fn is_sized(longs: &[u64], words: &[u32]) -> bool
+    ensures { λ r. ⌜ r ≡ isSized (now (longs .entry)) (now (words .entry)) ⌝ }
+{
+    (longs.len() == State::LONGS) & (words.len() == State::WORDS)
+}
+
 // ---- words
 
 // A word as a flag.
@@ -173,7 +178,7 @@ pub fn open_count(words: &[u32]) -> usize
     ensures { λ r. ⌜ r ≡ openCount (now (words .entry)) ⌝ }
 {
     let n = words[Book::COUNT];
-    if n < 64 {
+    if n < Book::MOST_ENTRIES as u32 {
         n as usize
     } else {
         Book::MOST_ENTRIES
@@ -186,19 +191,10 @@ pub fn leg_count(words: &[u32]) -> usize
     ensures { λ r. ⌜ r ≡ legCount (now (words .entry)) ⌝ }
 {
     let n = words[Legs::COUNT];
-    if n < 4 { n as usize } else { Legs::MOST }
-}
-
-// The ratio of a leg.
-pub fn ratio_at(words: &[u32], k: usize) -> u32
-    requires { ⌜ WordsSized (now words) × (k < 4) ⌝ }
-    ensures { λ r. ⌜ r ≡ ratioOf (now (words .entry)) k ⌝ }
-{
-    let n = words[Legs::RATIOS + k];
-    if n < Legs::MOST_RATIO {
-        n
+    if n < Legs::MOST as u32 {
+        n as usize
     } else {
-        Legs::MOST_RATIO
+        Legs::MOST
     }
 }
 
@@ -222,36 +218,4 @@ pub struct Entry {
     pub buy: u32,
     pub customer: u32,
     pub stage: u32,
-}
-
-// The entry at a place of the book.
-pub fn entry_at(longs: &[u64], words: &[u32], k: usize) -> Entry
-    requires { ⌜ Sized (now longs) (now words) × (k < 64) ⌝ }
-    ensures { λ r. ⌜ entryOf r ≡ entryAt (now (longs .entry)) (now (words .entry)) k ⌝ }
-{
-    Entry {
-        arrival: longs[Book::ARRIVALS + k],
-        id: words[Book::IDS + k],
-        participant: words[Book::PARTICIPANTS + k],
-        price: words[Book::PRICES + k],
-        units: words[Book::UNITS + k],
-        buy: words[Book::BUYS + k],
-        customer: words[Book::CUSTOMERS + k],
-        stage: words[Book::STAGES + k],
-    }
-}
-
-// An entry stored at a place of the book.
-pub fn put_entry(longs: &mut [u64], words: &mut [u32], k: usize, e: Entry)
-    requires { ⌜ Sized (now longs) (now words) × (k < 64) ⌝ }
-    ensures { λ _. ⌜ (now (longs .exit) ≡ putLongs (now (longs .entry)) k e) × (now (words .exit) ≡ putWords (now (words .entry)) k e) ⌝ }
-{
-    longs[Book::ARRIVALS + k] = e.arrival;
-    words[Book::IDS + k] = e.id;
-    words[Book::PARTICIPANTS + k] = e.participant;
-    words[Book::PRICES + k] = e.price;
-    words[Book::UNITS + k] = e.units;
-    words[Book::BUYS + k] = e.buy;
-    words[Book::CUSTOMERS + k] = e.customer;
-    words[Book::STAGES + k] = e.stage;
 }

@@ -1,10 +1,12 @@
 -- What the tape's types stand for in the rules.
+use mathlib.Core.Path.{_≡_}
 use mathlib.Core.List.{List}
-use Prim.Native.Nat.{ℕ, _+_, min}
-use lib.ListN.{length, getD, drop}
+use Prim.Native.Nat.{ℕ, _+_, _*_, _<_, min}
+use lib.ListN.{length, drop}
 use Rattle.rules.specs.Strategy as S
 use Rattle.rules.specs.Tape as T
-use Rattle.types.specs.View.{from, settingsOf}
+use Rattle.types.specs.View.{legAt, settingsOf}
+use Rattle.types.specs.declared.Opening.{Opening}
 use Rattle.tape.specs.declared.Header.{Header}
 use Rattle.tape.specs.declared.Uses.{Uses}
 use Rattle.tape.specs.declared.Fields.{Fields}
@@ -42,17 +44,15 @@ fieldsOf f =
       time = f .time;
     }
 
--- the first n bytes of a part; past its end they are 0
-abbrev pub bytesIn : ℕ → List ℕ → List ℕ
-bytesIn n p = from (λ i. getD p i 0) 0 n
-
--- a leg, its symbol of 21 bytes wherever the part ends
-abbrev pub legIn : List ℕ → S.Leg
-legIn p = record { symbol = bytesIn 21 p; side = getD p 21 0; ratio = getD p 22 0; mpv = getD p 23 0 }
-
 -- the opening of a header and of as many legs as it counts, which stand from a place on
 abbrev pub strategyFrom : ℕ → List ℕ → S.Strategy
 strategyFrom at t = record { legs = T.legsFrom (T.headerOf t .legCount) (drop at t); settings = T.headerOf t .settings }
+
+-- the opening that is read, field by field: the header's count and settings, and four legs from a place on, those beyond the count too
+pub record Reads (at : ℕ) (t : List ℕ) (r : Opening) : Type 0 where
+  pub count : r .count ≡ T.headerOf t .legCount
+  pub settings : settingsOf (r .settings) ≡ T.headerOf t .settings
+  pub legs : (k : ℕ) → k < 4 → legAt r k ≡ T.legOf (drop (at + T.legBytes * k) t)
 
 -- a section
 abbrev pub sectionOf : Section → T.Section

@@ -6,11 +6,10 @@ ghost use lib.IntN.{pos};
 ghost use lib.ListN.{drop};
 ghost use Rattle.rules.specs.Basics.{pick};
 ghost use Rattle.rules.specs.Messages.{order};
-ghost use Rattle.rules.specs.Run.{opening};
-ghost use Rattle.rules.specs.Tape.{settingsOf as settingsIn, headerOf as headerIn, usesOf as usesIn, fieldsOf as fieldsIn, usedFields, localOf as localIn, nationalOf as nationalIn, termsOf, changeOf as changeIn, bodyOf as bodyIn, messageOf as messageIn, legSection, messageSection, isMisplaced, overlaps, isDamaged, isKind, knownKinds, tapeRefusal, strategyOf as strategyIn};
+ghost use Rattle.rules.specs.Tape.{settingsOf as settingsIn, headerOf as headerIn, bytesOf, legOf as legIn, usesOf as usesIn, fieldsOf as fieldsIn, usedFields, localOf as localIn, nationalOf as nationalIn, termsOf, changeOf as changeIn, bodyOf as bodyIn, messageOf as messageIn, legSection, messageSection, isMisplaced, overlaps, isDamaged, isKind, knownKinds, tapeRefusal};
 ghost use Rattle.types.specs.declared.Body.the-variants.{Order as sentOrder};
-ghost use Rattle.types.specs.View.{legOf, settingsOf, openingOf, localOf, nationalOf, responseTerms, changeOf, bodyOf, messageOf};
-ghost use Rattle.tape.specs.View.{headerOf, usesOf, fieldsOf, bytesIn, legIn, strategyFrom, sectionOf, placeAfter};
+ghost use Rattle.types.specs.View.{legOf, settingsOf, localOf, nationalOf, responseTerms, changeOf, bodyOf, messageOf};
+ghost use Rattle.tape.specs.View.{headerOf, usesOf, fieldsOf, Reads, sectionOf, placeAfter};
 use types::Amounts;
 use types::Body;
 use types::Cancel;
@@ -19,10 +18,14 @@ use types::Local;
 use types::Message;
 use types::Modify;
 use types::National;
+use types::Opening;
 use types::Order;
 use types::Response;
 use types::Settings;
-use types::Strategy;
+
+mod wire;
+
+pub use wire::byte_at;
 
 // ---- header
 
@@ -415,7 +418,7 @@ pub fn message_of(p: &[u8]) -> Message
 
 // A leg's symbol.
 fn symbol_of(p: &[u8]) -> [u8; 21]
-    ensures { λ r. ⌜ r ≡ bytesIn 21 (now (p .entry)) ⌝ }
+    ensures { λ r. ⌜ r ≡ bytesOf 21 (now (p .entry)) ⌝ }
 {
     let mut s = [0u8; 21];
     let mut i: usize = 0;
@@ -442,7 +445,7 @@ pub fn leg_of(p: &[u8]) -> Leg
 // ---- sections
 
 // The bytes of a section: where they start, and how many they are.
-struct Section {
+pub struct Section {
     pub start: u32,
     pub size: u32,
 }
@@ -566,9 +569,9 @@ pub fn message_at(tape: &[u8], at: usize) -> Message
     message_of(&tape[start..])
 }
 
-// The opening of a header and of legs that stand from a place on. With more than four legs, or with legs that the tape is too short for, it is refused as the tape's own is.
-pub fn strategy_from(t: &[u8], at: u16) -> Strategy
-    ensures { λ r. ⌜ opening (openingOf r) ≡ opening (strategyFrom at (now (t .entry))) ⌝ }
+// The opening of a header and of legs that stand from a place on: four are read, whatever the count. With more it is refused as the tape's own is.
+pub fn strategy_from(t: &[u8], at: u16) -> Opening
+    ensures { λ r. ⌜ Reads at (now (t .entry)) r ⌝ }
 {
     let h = header_of(t);
     let size = Section::LEG as usize;
@@ -583,7 +586,7 @@ pub fn strategy_from(t: &[u8], at: u16) -> Strategy
     ];
     let count = h.legcount as usize;
     let settings = h.settings;
-    Strategy {
+    Opening {
         legs,
         count,
         settings,
@@ -591,8 +594,8 @@ pub fn strategy_from(t: &[u8], at: u16) -> Strategy
 }
 
 // The opening that a tape holds.
-pub fn strategy_of(t: &[u8]) -> Strategy
-    ensures { λ r. ⌜ opening (openingOf r) ≡ opening (strategyIn (now (t .entry))) ⌝ }
+pub fn strategy_of(t: &[u8]) -> Opening
+    ensures { λ r. ⌜ Reads (headerIn (now (t .entry)) .legOffset) (now (t .entry)) r ⌝ }
 {
     let h = header_of(t);
     strategy_from(t, h.legoffset)

@@ -1,8 +1,9 @@
 -- What live answers to an opening and to a message: a line of one to three words.
 use mathlib.Core.List.{List, [], _∷_, _++_}
 use Prim.Native.Nat.{ℕ}
+use lib.Dec.{eqb}
 use Rattle.rules.specs.Outcome.{Cause, byTime, byOrder, byLegs, Outcome, Noted, Placed, Begun, Joined, Ended, Refused}
-use Rattle.rules.specs.Run.{Opened, refusedOpening, started}
+use Rattle.rules.specs.Basics.{pick}
 use Rattle.text.specs.Ascii.{ascii}
 use Rattle.text.specs.Text.{digits, after}
 
@@ -21,7 +22,6 @@ outcomeText (Joined u) = ascii "joined" ++ after (digits u ∷ [])
 outcomeText (Ended c n) = ascii "ended" ++ after (causeWord c ∷ digits n ∷ [])
 outcomeText (Refused n) = ascii "refused" ++ after (digits n ∷ [])
 
--- an opening
-abbrev pub openingText : Opened → List ℕ
-openingText (refusedOpening n) = ascii "refused" ++ after (digits n ∷ [])
-openingText (started s) = ascii "opened" ++ after []
+-- an opening, by the number that refuses it or 0
+abbrev pub openingText : ℕ → List ℕ
+openingText n = pick (eqb n 0) (ascii "opened" ++ after []) (ascii "refused" ++ after (digits n ∷ []))

@@ -7,7 +7,7 @@ ghost use lib.ListN.{length};
 ghost use lib.Signed.{ltZ};
 ghost use Rattle.rules.specs.Print.{titleLine, fillLine, refusedLine, lastLine};
 ghost use Rattle.rules.specs.Outcome.{Ended};
-ghost use Rattle.types.specs.View.{rankOf, contraOf, fillOf, causeOf, outcomeOf, openedOf};
+ghost use Rattle.types.specs.View.{rankOf, contraOf, fillOf, causeOf, outcomeOf};
 ghost use Rattle.text.specs.Text.{digit, digits, signedDigits, rankLetter, contraNumber, after};
 ghost use Rattle.text.specs.Places.{Wrote, Put, Printed};
 ghost use Rattle.text.specs.Answers.{outcomeText, openingText};
@@ -15,7 +15,6 @@ ghost use Rattle.text.specs.OwnCase.{OwnCaseText};
 use types::Cause;
 use types::Contra;
 use types::Fill;
-use types::Opened;
 use types::Outcome;
 use types::Rank;
 
@@ -257,13 +256,13 @@ pub fn put_outcome(out: &mut [u8; 128], o: Outcome) -> usize
     }
 }
 
-// The answer to an opening.
-pub fn put_opening(out: &mut [u8; 128], o: Opened) -> usize
+// The answer to an opening, by the number that refuses it or 0.
+pub fn put_opening(out: &mut [u8; 128], number: u32) -> usize
     requires { ⌜ length (now out) ≡ 128 ⌝ }
-    ensures { λ r. ⌜ Put (openingText (openedOf o)) (now (out .entry)) r (now (out .exit)) ⌝ }
+    ensures { λ r. ⌜ Put (openingText number) (now (out .entry)) r (now (out .exit)) ⌝ }
 {
-    if o.number == 0 {
+    if number == 0 {
         return put_word(out, 0, b"opened\n");
     }
-    put_one(out, b"refused", o.number as u64)
+    put_one(out, b"refused", number as u64)
 }

@@ -1,21 +1,14 @@
 -- What the engine's types stand for in the rules.
-use mathlib.Core.Bool.{false}
 use mathlib.Core.List.{List, [], _∷_}
-use Prim.Native.Nat.{ℕ, zero, suc, _+_, _-_, min}
+use Prim.Native.Nat.{ℕ, zero, suc, _+_, _-_}
 use lib.Dec.{eqb}
 use lib.ListN.{getD}
 use Rattle.rules.specs.Basics.{pick}
 use Rattle.types.specs.declared.Leg.{Leg}
 use Rattle.types.specs.declared.Settings.{Settings}
-use Rattle.types.specs.declared.Strategy.{Strategy}
+use Rattle.types.specs.declared.Opening.{Opening}
 use Rattle.types.specs.declared.Quote.{Quote}
-use Rattle.types.specs.declared.Market.{Market}
 use Rattle.types.specs.declared.Derived.{Derived}
-use Rattle.types.specs.declared.Entry.{Entry}
-use Rattle.types.specs.declared.Book.{Book}
-use Rattle.types.specs.declared.Auction.{Auction}
-use Rattle.types.specs.declared.Clock.{Clock}
-use Rattle.types.specs.declared.State.{State}
 use Rattle.types.specs.declared.Local.{Local}
 use Rattle.types.specs.declared.National.{National}
 use Rattle.types.specs.declared.Order.{Order}
@@ -33,15 +26,12 @@ use Rattle.types.specs.declared.Cause.{Cause}
 use Rattle.types.specs.declared.Cause.the-variants.{Time as causeTime, Order as causeOrder, Legs as causeLegs}
 use Rattle.types.specs.declared.Outcome.{Outcome}
 use Rattle.types.specs.declared.Outcome.the-variants.{Noted as outNoted, Placed as outPlaced, Begun as outBegun, Joined as outJoined, Ended as outEnded, Refused as outRefused}
-use Rattle.types.specs.declared.Opened.{Opened}
 use Rattle.rules.specs.Strategy as S
 use Rattle.rules.specs.Prices as P
 use Rattle.rules.specs.Book as B
-use Rattle.rules.specs.State as T
 use Rattle.rules.specs.Messages as M
 use Rattle.rules.specs.Turn as U
 use Rattle.rules.specs.Outcome as O
-use Rattle.rules.specs.Run as R
 
 -- ---- tables
 
@@ -65,7 +55,7 @@ abbrev pub noLeg : Leg
 noLeg = record { symbol = []; side = 0; ratio = 0; mpv = 0 }
 
 -- the leg at a place
-abbrev pub legAt : Strategy → ℕ → S.Leg
+abbrev pub legAt : Opening → ℕ → S.Leg
 legAt s k = legOf (getD (s .legs) k noLeg)
 
 -- the settings
@@ -83,16 +73,8 @@ settingsOf c =
       openingTime = c .time;
     }
 
--- how many legs a strategy of a state has, whatever its count
-abbrev pub legCount : Strategy → ℕ
-legCount s = min (s .count) 4
-
--- the strategy of a state
-abbrev pub strategyOf : Strategy → S.Strategy
-strategyOf s = record { legs = from (legAt s) 0 (legCount s); settings = settingsOf (s .settings) }
-
 -- the strategy of an opening, which may count more legs than there are places
-abbrev pub openingOf : Strategy → S.Strategy
+abbrev pub openingOf : Opening → S.Strategy
 openingOf s = record { legs = from (legAt s) 0 (s .count); settings = settingsOf (s .settings) }
 
 -- ---- market
@@ -107,18 +89,6 @@ quoteOf q =
       nationalAsk = q .nationalask;
     }
 
--- what stands in a place without a quote
-abbrev pub noQuote : Quote
-noQuote = record { bid = 0; bidsize = 0; ask = 0; asksize = 0; nationalbid = 0; nationalask = 0 }
-
--- the quote at a place
-abbrev pub quoteAt : Market → ℕ → P.Quote
-quoteAt m k = quoteOf (getD (m .quotes) k noQuote)
-
--- the quotes of n legs
-abbrev pub marketOf : Market → ℕ → List P.Quote
-marketOf m n = from (quoteAt m) 0 n
-
 -- a derived price
 abbrev pub derivedOf : Derived → P.Derived
 derivedOf d = record { price = d .price; units = d .units }
@@ -128,47 +98,6 @@ derivedOf d = record { price = d .price; units = d .units }
 -- a stage
 abbrev pub stageOf : ℕ → B.Stage
 stageOf n = pick (eqb n 0) B.held (pick (eqb n 1) B.live (pick (eqb n 2) B.queued B.answer))
-
--- an entry
-abbrev pub entryOf : Entry → B.Entry
-entryOf e =
-    record { id = e .id; participant = e .participant; buy = e .buy; customer = e .customer; price = e .price; units = e .units; arrival = e .arrival; stage = stageOf (e .stage) }
-
--- the entry at a place of the book
-abbrev pub entryAt : Book → ℕ → B.Entry
-entryAt b k =
-    record {
-      id = getD (b .ids) k 0;
-      participant = getD (b .participants) k 0;
-      buy = getD (b .buys) k false;
-      customer = getD (b .customers) k false;
-      price = getD (b .prices) k 0;
-      units = getD (b .units) k 0;
-      arrival = getD (b .arrivals) k 0;
-      stage = stageOf (getD (b .stages) k 0);
-    }
-
--- what a count shows of a table with 64 places
-abbrev pub shownBy : {A : Type 0} → (ℕ → A) → ℕ → List A
-shownBy f n = from f 0 (min n 64)
-
--- the open entries, in arrival order
-abbrev pub entriesOf : Book → List B.Entry
-entriesOf b = shownBy (entryAt b) (b .count)
-
--- ---- state
-
--- the auction
-abbrev pub auctionOf : Auction → T.Auction
-auctionOf a = pick (a .pending) (T.pending (record { buy = a .buy; deadline = a .deadline; start = derivedOf (a .start) ∷ [] })) T.none
-
--- the clock
-abbrev pub clockOf : Clock → T.Clock
-clockOf c = record { next = c .next; time = c .time }
-
--- a state
-abbrev pub stateOf : State → T.State
-stateOf s = T.stateFrom (strategyOf (s .strategy)) (marketOf (s .market) (legCount (s .strategy))) (entriesOf (s .book)) (auctionOf (s .auction)) (clockOf (s .clock))
 
 -- ---- messages
 
@@ -239,7 +168,3 @@ outcomeOf (outBegun t) = O.Begun t
 outcomeOf (outJoined u) = O.Joined u
 outcomeOf (outEnded c n) = O.Ended (causeOf c) n
 outcomeOf (outRefused n) = O.Refused n
-
--- the answer to an opening
-abbrev pub openedOf : Opened → R.Opened
-openedOf o = pick (eqb (o .number) 0) (R.started (stateOf (o .state))) (R.refusedOpening (o .number))

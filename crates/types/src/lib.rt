@@ -18,6 +18,16 @@ impl Leg {
     pub const LEAST_RATIO: u8 = 1;
 
     pub const MOST_RATIO: u8 = 9;
+
+    // "neither ratio is above three times the other".
+    pub const MOST_TIMES: u32 = 3;
+
+    // "a minimum price step (MPV, 002) of 1, 5 or 10 cents".
+    pub const CENT: u8 = 1;
+
+    pub const NICKEL: u8 = 5;
+
+    pub const DIME: u8 = 10;
 }
 
 // The amounts of the filter, for an MPV of 1, 5 and 10.
@@ -60,13 +70,13 @@ impl Settings {
 }
 
 // What is opened: the legs in use are the first `count`.
-pub struct Strategy {
+pub struct Opening {
     pub legs: [Leg; 4],
     pub count: usize,
     pub settings: Settings,
 }
 
-impl Strategy {
+impl Opening {
     pub const LEAST_LEGS: usize = 2;
 
     pub const MOST_LEGS: usize = 4;
@@ -88,93 +98,10 @@ impl Quote {
     pub const MOST_SIZE: u32 = 999_999;
 }
 
-// A quote for each leg.
-pub struct Market {
-    pub quotes: [Quote; 4],
-}
-
 // A derived price with its units; 0 units is none.
 pub struct Derived {
     pub price: u64,
     pub units: u32,
-}
-
-// An open order or response.
-pub struct Entry {
-    pub arrival: u64,
-    pub id: u32,
-    pub participant: u32,
-    pub price: u32,
-    pub units: u32,
-    pub buy: bool,
-    pub customer: bool,
-    pub stage: u8,
-}
-
-impl Entry {
-    // "An open order is held, live or in the auction queue"; the fourth is a response.
-    pub const HELD: u8 = 0;
-
-    pub const LIVE: u8 = 1;
-
-    pub const QUEUED: u8 = 2;
-
-    pub const RESPONSE: u8 = 3;
-
-    pub const MOST_UNITS: u32 = 999_999;
-
-    // "Net limits run from -40,000,000 to 40,000,000".
-    pub const MOST_CENTS: u32 = 40_000_000;
-}
-
-// The open orders and responses in arrival order, a column for each field; the places in use are the first `count`.
-pub struct Book {
-    pub arrivals: [u64; 64],
-    pub ids: [u32; 64],
-    pub participants: [u32; 64],
-    pub prices: [u32; 64],
-    pub units: [u32; 64],
-    pub buys: [bool; 64],
-    pub customers: [bool; 64],
-    pub stages: [u8; 64],
-    pub count: usize,
-}
-
-impl Book {
-    pub const MOST_ORDERS: usize = 32;
-
-    pub const MOST_RESPONSES: usize = 32;
-
-    pub const MOST_ENTRIES: usize = 64;
-}
-
-// The auction, if one is pending: its side, its deadline, and the derived contra price when it began.
-pub struct Auction {
-    pub pending: bool,
-    pub buy: bool,
-    pub deadline: u64,
-    pub start: Derived,
-}
-
-// The next arrival number, and the last accepted time.
-pub struct Clock {
-    pub next: u64,
-    pub time: u64,
-}
-
-impl Clock {
-    pub const MOST_NUMBER: u64 = 1_000_000_000_000_000;
-
-    pub const MOST_TIME: u64 = 1_000_000_000_000_000;
-}
-
-// What is carried from message to message.
-pub struct State {
-    pub strategy: Strategy,
-    pub market: Market,
-    pub book: Book,
-    pub auction: Auction,
-    pub clock: Clock,
 }
 
 // A local quote.
@@ -209,6 +136,12 @@ impl Order {
     pub const CUSTOMER: u8 = 1;
 
     pub const OTHER: u8 = 2;
+
+    // Of responses too.
+    pub const MOST_UNITS: u32 = 999_999;
+
+    // "Net limits run from -40,000,000 to 40,000,000".
+    pub const MOST_CENTS: u32 = 40_000_000;
 }
 
 // A response.
@@ -300,16 +233,4 @@ pub enum Outcome {
     Joined(u64),
     Ended(Cause, u32),
     Refused(u32),
-}
-
-// The answer to an opening: a state, or the number that refuses it and the empty state. Number 0 refuses nothing.
-pub struct Opened {
-    pub number: u32,
-    pub state: State,
-}
-
-// The answer to a message.
-pub struct Answer {
-    pub state: State,
-    pub outcome: Outcome,
 }

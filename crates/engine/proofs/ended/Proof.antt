@@ -5,16 +5,16 @@ use Rattle.engine.proofs.ended.Statement.{statement}
 use Rattle.engine.proofs.ended.Tie as tie
 
 returns : tie.Need-returns
-returns c = λ o s. rw (c .if1 .taken) refl
+returns c = λ b s. rw (c .if1 .taken) refl
 
 returns-2 : tie.Need-returns-2
-returns-2 c = λ o s. rw (c .if2 .taken) refl
+returns-2 c = λ b s. rw (c .if2 .taken) refl
 
 returns-3 : tie.Need-returns-3
 returns-3 c =
     let act = c .before .before .args .act in
     let h = c .before .before .pre in
-    λ o s. rw (ne-eqb act 0 (λ e. omega arith), ne-eqb act 1 (λ e. omega arith), ne-eqb act 2 (λ e. omega arith), ne-eqb act 3 (c .before .if1 .left), ne-eqb act 4 (c .if2 .left)) refl
+    λ b s. rw (ne-eqb act 0 (λ e. omega arith), ne-eqb act 1 (λ e. omega arith), ne-eqb act 2 (λ e. omega arith), ne-eqb act 3 (c .before .if1 .left), ne-eqb act 4 (c .if2 .left)) refl
 
 pub ended-spec : {M : Type 1} → statement M
 ended-spec = tie.close (tie.spec returns returns-2 returns-3)

@@ -1,53 +1,40 @@
+use mathlib.Core.Path.{refl}
 use borrow.Author.Needs.{needs}
-use Rattle.types.specs.View.{derivedOf}
-use Rattle.turn.specs.Open.{modeOf}
-use Rattle.execution.proofs.ExecutionLaws.{executed-is}
+use Rattle.execution.specs.Slots.{modeOf}
+use Rattle.execution.proofs.ExecuteLaws.{none-at, executed-goes, gives}
 use Rattle.execution.proofs.execute.Statement.{statement}
 use Rattle.execution.proofs.execute.Tie as tie
 
-place-requires : tie.Need-place-requires
-place-requires c κs = search needs
+planned-requires : tie.Need-planned-requires
+planned-requires c κs =
+    let S = c .before .before .before .before .before .before .before in
+    (S .pre .0, S .pre .1, (refl, λ s. none-at 65 s))
 
-element-copy-out-buy : tie.Need-element-copy-out-buy
-element-copy-out-buy c = search needs
+applied-requires : tie.Need-applied-requires
+applied-requires c κs =
+    let P = c .before .before .before .before .before in
+    let S = P .before .before .before .before .before .before .before .before in
+    let a = S .args in
+    (S .pre .0, S .pre .1, P .planned .ensures .0, gives (modeOf (a .mode)) (a .longs .now) (a .words .now) (a .k) (P .planned .last .1 .1 .1 .1 .1 .1 .0) (P .planned .result .units) (a .list .now) (a .at) (P .planned .last .1 .1 .0) (P .planned .result .count) (P .planned .ensures .1))
 
-derived-requires : tie.Need-derived-requires
-derived-requires c κs = search needs
+same-length : tie.Need-same-length
+same-length c = search needs
 
-turned-requires : tie.Need-turned-requires
-turned-requires c κs = search needs
+same-length-2 : tie.Need-same-length-2
+same-length-2 c = search needs
 
-stage-after-requires : tie.Need-stage-after-requires
-stage-after-requires c κs = search needs
-
-settled-requires : tie.Need-settled-requires
-settled-requires c κs = search needs
-
-element-copy-out-lower : tie.Need-element-copy-out-lower
-element-copy-out-lower c = search needs
-
-lower-requires : tie.Need-lower-requires
-lower-requires c κs = search needs
+same-length-3 : tie.Need-same-length-3
+same-length-3 c = search needs
 
 returns : tie.Need-returns
 returns c =
-    let settling = c .before .before in
-    let turning = settling .before .before .before .before in
-    let a = turning .before .before .before .before .args in
-    λ z. rw (← turning .before .before .before .place .ensures)
-    (executed-is (modeOf (a .mode)) (a .s) (a .m) (a .t4) (a .a) _ z (derivedOf (turning .before .derived .result)) (turning .before .derived .ensures .0) _ _
-    (turning .turned .ensures) (settling .before .stage-after .ensures) (settling .settled .ensures) (c .lower .ensures))
+    let A = c .before .before .before .before in
+    let P = A .before .before .before .before .before .before in
+    let a = P .before .before .before .before .before .before .before .before .args in
+    executed-goes (modeOf (a .mode)) (a .longs .now) (a .words .now) (a .list .now) (a .at) (a .k) (A .applied .last .0) (A .applied .last .1 .0) (P .planned .last .1 .1 .0) (P .planned .result .count) (P .planned .last .1 .1 .1 .1 .1 .1 .0) (P .planned .result .units)
+    (P .planned .ensures .1) (A .applied .ensures)
 
 pub execute-spec : {M : Type 1} → statement M
 execute-spec =
     tie.close
-    (tie.spec
-    place-requires
-    element-copy-out-buy
-    derived-requires
-    turned-requires
-    stage-after-requires
-    settled-requires
-    element-copy-out-lower
-    lower-requires
-    returns)
+    (tie.spec planned-requires applied-requires same-length same-length-2 same-length-3 returns)

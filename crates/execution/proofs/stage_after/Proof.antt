@@ -1,7 +1,7 @@
 use mathlib.Core.Path.{_≡_, refl}
 use Rattle.rules.specs.Book.{live}
 use Rattle.rules.specs.Execution.{stageAfter}
-use Rattle.turn.proofs.OpenLaws.{outside}
+use Rattle.execution.proofs.OpenLaws.{outside}
 use Rattle.execution.proofs.stage_after.Statement.{statement}
 use Rattle.execution.proofs.stage_after.Tie as tie
 

@@ -5,6 +5,9 @@ use borrow.Author.Needs.{needs}
 use Rattle.intake.proofs.is_eligible.Statement.{statement}
 use Rattle.intake.proofs.is_eligible.Tie as tie
 
+shared-slice-read-distance : tie.Need-shared-slice-read-distance
+shared-slice-read-distance c = search needs
+
 meets-class-requires : tie.Need-meets-class-requires
 meets-class-requires c κs = search needs
 
@@ -22,14 +25,29 @@ near-live-requires c κs = search needs
 
 returns : tie.Need-returns
 unfolding eligible
-returns c f hs hb hp =
-    let d = c .before .before .before .before .before .derived .ensures .0 in
-    rw (c .before .near-live .ensures f hs hb hp, c .before .before .in-front .ensures f hs hb hp, c .before .before .before .is-beyond .ensures, ap (λ (x : Derived). x .units) d, ap (λ (x : Derived). x .price) d, c .before .before .before .before .before .before .meets-class .ensures)
+returns c = λ longs o eb ep eu.
+    let N = c .before in
+    let F = N .before in
+    let B = F .before in
+    let D = B .before in
+    let d = D .derived .ensures .0 longs in
+    rw (
+      N .near-live .ensures longs,
+      F .in-front .ensures longs o eb ep,
+      B .is-beyond .ensures,
+      ap (λ (x : Derived). x .units) d,
+      ap (λ (x : Derived). x .price) d,
+      D .before .meets-class .ensures longs,
+      eb,
+      ep,
+      eu,
+    )
 
 pub is-eligible-spec : {M : Type 1} → statement M
 is-eligible-spec =
     tie.close
     (tie.spec
+    shared-slice-read-distance
     meets-class-requires
     derived-requires
     is-beyond-requires

@@ -10,8 +10,6 @@ use Rattle.state.specs.Stores.{Kept}
 use Rattle.state.proofs.StoreLaws.{kept-all, kept-set, done-at}
 use Rattle.opening.proofs.clear_quotes.Statement.{statement}
 use Rattle.opening.proofs.clear_quotes.Tie as tie
-use Rattle.opening.proofs.clear_quotes.Reads as reads
-use Rattle.opening.proofs.clear_quotes.Lts as lts
 
 abbrev Inv-loop : tie.InvT-loop
 Inv-loop words₀ i₀ words i = (i ≤ 24) × WordsSized words × ((j : ℕ) → j < i → getD words (L.bids + j) 0 ≡ 0) × Kept L.bids L.sides words₀ words

@@ -3,18 +3,14 @@ use mathlib.Core.Path.{sym, _∙_}
 use native.Mathlib.Omega.{arith}
 use borrow.Author.Tests.{not-true, not-false}
 use Rattle.types.specs.View.{openingOf}
-use Rattle.opening.proofs.OpensLaws.{fits-sized, unfit, turned-back, opened}
+use Rattle.state.proofs.StateLaws.{sized-so}
+use Rattle.opening.proofs.OpensLaws.{unfit, turned-back, opened}
 use borrow.Author.Needs.{needs}
 use Rattle.opening.proofs.open.Statement.{statement}
 use Rattle.opening.proofs.open.Tie as tie
-use Rattle.opening.proofs.open.Reads as reads
-use Rattle.opening.proofs.open.Lts as lts
-use Rattle.opening.proofs.fit.Reads as fit-reads
-use Rattle.opening.proofs.start.Reads as start-reads
-use Rattle.strategy.proofs.refusal.Reads as refusal-reads
 
-fit-requires : tie.Need-fit-requires
-fit-requires c κs = search needs
+is-sized-requires : tie.Need-is-sized-requires
+is-sized-requires c κs = search needs
 
 same-length : tie.Need-same-length
 same-length c = search needs
@@ -25,7 +21,7 @@ same-length-2 c = search needs
 returns : tie.Need-returns
 returns c =
     let a = c .before .before .before .before .before .before .args in
-    unfit (a .longs .now) (a .words .now) (openingOf (a .o)) (sym (c .before .fit .ensures) ∙ not-true _ (c .if1 .taken))
+    unfit (a .longs .now) (a .words .now) (openingOf (a .o)) (sym (c .before .is-sized .ensures) ∙ not-true _ (c .if1 .taken))
 
 refusal-requires : tie.Need-refusal-requires
 refusal-requires c κs = search needs
@@ -40,14 +36,14 @@ returns-2 : tie.Need-returns-2
 returns-2 c =
     let F = c .before .before .before in
     let a = F .before .before .before .before .before .args in
-    turned-back (a .longs .now) (a .words .now) (openingOf (a .o)) (c .before .refusal .result) (sym (F .fit .ensures) ∙ not-false _ (c .before .before .if1 .left)) (c .before .refusal .ensures) (c .if2 .taken)
+    turned-back (a .longs .now) (a .words .now) (openingOf (a .o)) (c .before .refusal .result) (sym (F .is-sized .ensures) ∙ not-false _ (c .before .before .if1 .left)) (c .before .refusal .ensures) (c .if2 .taken)
 
 start-requires : tie.Need-start-requires
 start-requires c κs =
     let R = c .before .before .before in
     let F = R .before .before in
     let a = F .before .before .before .before .before .args in
-    (fits-sized (a .longs .now) (a .words .now) (sym (F .fit .ensures) ∙ not-false _ (R .before .if1 .left)), sym (R .refusal .ensures) ∙ omega arith)
+    (sized-so (a .longs .now) (a .words .now) (sym (F .is-sized .ensures) ∙ not-false _ (R .before .if1 .left)), sym (R .refusal .ensures) ∙ omega arith)
 
 same-length-5 : tie.Need-same-length-5
 same-length-5 c = search needs
@@ -61,14 +57,14 @@ returns-3 c =
     let R = G .before .before .before .before in
     let F = R .before .before in
     let a = F .before .before .before .before .before .args in
-    opened (a .longs .now) (a .words .now) (openingOf (a .o)) (G .start .last .0) (G .start .last .1 .0) (sym (F .fit .ensures) ∙ not-false _ (R .before .if1 .left))
+    opened (a .longs .now) (a .words .now) (openingOf (a .o)) (G .start .last .0) (G .start .last .1 .0) (sym (F .is-sized .ensures) ∙ not-false _ (R .before .if1 .left))
     (omega (arith, R .refusal .ensures)) (G .start .ensures) (search needs) (search needs)
 
 pub open-spec : {M : Type 1} → statement M
 open-spec =
     tie.close
     (tie.spec
-    fit-requires
+    is-sized-requires
     same-length
     same-length-2
     returns

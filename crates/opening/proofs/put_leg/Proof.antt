@@ -5,9 +5,6 @@ use Rattle.opening.proofs.LegLaws.{leg-stored}
 use borrow.Author.Needs.{needs}
 use Rattle.opening.proofs.put_leg.Statement.{statement}
 use Rattle.opening.proofs.put_leg.Tie as tie
-use Rattle.opening.proofs.put_leg.Reads as reads
-use Rattle.opening.proofs.put_leg.Lts as lts
-use Rattle.opening.proofs.put_symbol.Reads as put-symbol-reads
 
 cast-words : tie.Need-cast-words
 cast-words c = search needs

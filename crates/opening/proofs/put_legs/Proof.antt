@@ -9,9 +9,6 @@ use Rattle.opening.specs.Stored.{HasLeg}
 use borrow.Author.Needs.{needs}
 use Rattle.opening.proofs.put_legs.Statement.{statement}
 use Rattle.opening.proofs.put_legs.Tie as tie
-use Rattle.opening.proofs.put_legs.Reads as reads
-use Rattle.opening.proofs.put_legs.Lts as lts
-use Rattle.opening.proofs.put_leg.Reads as put-leg-reads
 
 abbrev Inv-loop : tie.InvT-loop
 Inv-loop words₀ o k₀ words k = (k ≤ 4) × WordsSized words × ((i : ℕ) → i < k → HasLeg words i (getD (o .legs) i noLeg))

@@ -3,8 +3,6 @@ use lib.ListN.{length-set}
 use borrow.Author.Needs.{needs}
 use Rattle.opening.proofs.put_settings.Statement.{statement}
 use Rattle.opening.proofs.put_settings.Tie as tie
-use Rattle.opening.proofs.put_settings.Reads as reads
-use Rattle.opening.proofs.put_settings.Lts as lts
 
 slice-write-words : tie.Need-slice-write-words
 slice-write-words c = search needs

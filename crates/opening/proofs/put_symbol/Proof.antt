@@ -10,9 +10,6 @@ use Rattle.state.specs.Stores.{Kept}
 use Rattle.state.proofs.StoreLaws.{kept-all, kept-set, done-at}
 use Rattle.opening.proofs.put_symbol.Statement.{statement}
 use Rattle.opening.proofs.put_symbol.Tie as tie
-use Rattle.opening.proofs.put_symbol.Reads as reads
-use Rattle.opening.proofs.put_symbol.Lts as lts
-use Rattle.opening.proofs.word_of.Reads as word-of-reads
 
 abbrev Inv-loop : tie.InvT-loop
 Inv-loop words₀ k symbol start i₀ words i =

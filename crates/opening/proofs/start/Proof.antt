@@ -9,13 +9,6 @@ use Rattle.opening.proofs.StartLaws.{accepted, start-is}
 use borrow.Author.Needs.{needs}
 use Rattle.opening.proofs.start.Statement.{statement}
 use Rattle.opening.proofs.start.Tie as tie
-use Rattle.opening.proofs.start.Reads as reads
-use Rattle.opening.proofs.start.Lts as lts
-use Rattle.opening.proofs.clear_quotes.Reads as clear-quotes-reads
-use Rattle.opening.proofs.put_clock.Reads as put-clock-reads
-use Rattle.opening.proofs.put_counts.Reads as put-counts-reads
-use Rattle.opening.proofs.put_legs.Reads as put-legs-reads
-use Rattle.opening.proofs.put_settings.Reads as put-settings-reads
 
 put-legs-requires : tie.Need-put-legs-requires
 put-legs-requires c κs = search needs

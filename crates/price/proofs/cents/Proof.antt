@@ -8,13 +8,9 @@ use Rattle.price.proofs.SignedLaws.{cents-low, cents-high}
 use borrow.Author.Needs.{needs}
 use Rattle.price.proofs.cents.Statement.{statement}
 use Rattle.price.proofs.cents.Tie as tie
-use Rattle.price.proofs.cents.Reads as reads
-use Rattle.price.proofs.cents.Lts as lts
-use Rattle.price.proofs.lesser.Reads as lesser-reads
-use Rattle.price.proofs.under.Reads as under-reads
 
-lesser-requires : tie.Need-lesser-requires
-lesser-requires c κs = search needs
+lesser-long-requires : tie.Need-lesser-long-requires
+lesser-long-requires c κs = search needs
 
 cast-zero : tie.Need-cast-zero
 cast-zero c = search needs
@@ -30,18 +26,18 @@ under-requires c κs = search needs
 
 returns : tie.Need-returns
 returns c =
-    let p = c .before .before .lesser .result in
-    toZ-ofZ {w = w64} {z = c .under .result} (search needs) ∙ c .under .ensures ∙ cents-low p (c .before .if1 .taken) ∙ ap cents (c .before .before .lesser .ensures)
+    let p = c .before .before .lesser-long .result in
+    toZ-ofZ {w = w64} {z = c .under .result} (search needs) ∙ c .under .ensures ∙ cents-low p (c .before .if1 .taken) ∙ ap cents (c .before .before .lesser-long .ensures)
 
 cast-result : tie.Need-cast-result
 cast-result c = search needs
 
 returns-2 : tie.Need-returns-2
 returns-2 c =
-    let p = c .before .lesser .result in
-    toZ-pos w64 {n = p - mostCents} (omega (arith, c .before .lesser .ensures)) ∙ cents-high p (omega arith) ∙ ap cents (c .before .lesser .ensures)
+    let p = c .before .lesser-long .result in
+    toZ-pos w64 {n = p - mostCents} (omega (arith, c .before .lesser-long .ensures)) ∙ cents-high p (omega arith) ∙ ap cents (c .before .lesser-long .ensures)
 
 pub cents-spec : {M : Type 1} → statement M
 cents-spec =
     tie.close
-    (tie.spec lesser-requires cast-zero sub-under sub-under-2 under-requires returns cast-result returns-2)
+    (tie.spec lesser-long-requires cast-zero sub-under sub-under-2 under-requires returns cast-result returns-2)

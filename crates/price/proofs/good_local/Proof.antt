@@ -6,9 +6,6 @@ use Rattle.price.proofs.SignedLaws.{negative-is, positive-is, no-size, 
 use borrow.Author.Needs.{needs}
 use Rattle.price.proofs.good_local.Statement.{statement}
 use Rattle.price.proofs.good_local.Tie as tie
-use Rattle.price.proofs.good_local.Reads as reads
-use Rattle.price.proofs.good_local.Lts as lts
-use Rattle.price.proofs.split.Reads as split-reads
 
 split-requires : tie.Need-split-requires
 split-requires c κs = search needs

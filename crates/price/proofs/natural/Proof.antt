@@ -4,9 +4,6 @@ use Rattle.price.proofs.SignedLaws.{negative-is, positive-is}
 use borrow.Author.Needs.{needs}
 use Rattle.price.proofs.natural.Statement.{statement}
 use Rattle.price.proofs.natural.Tie as tie
-use Rattle.price.proofs.natural.Reads as reads
-use Rattle.price.proofs.natural.Lts as lts
-use Rattle.price.proofs.split.Reads as split-reads
 
 split-requires : tie.Need-split-requires
 split-requires c κs = search needs

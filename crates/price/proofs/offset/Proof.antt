@@ -7,10 +7,6 @@ use Rattle.price.proofs.SignedLaws.{negative-is, positive-is}
 use borrow.Author.Needs.{needs}
 use Rattle.price.proofs.offset.Statement.{statement}
 use Rattle.price.proofs.offset.Tie as tie
-use Rattle.price.proofs.offset.Reads as reads
-use Rattle.price.proofs.offset.Lts as lts
-use Rattle.price.proofs.less.Reads as less-reads
-use Rattle.price.proofs.split.Reads as split-reads
 
 -- one more is the successor
 succ : (n : ℕ) → mostCents - (n + 1) ≡ offset (negsuc n)

@@ -9,8 +9,6 @@ use mir.Facts.{toZ-ofZ, toZ-pos, fits-natAbs}
 use Rattle.price.proofs.SignedLaws.{below, below-is, below-back, below-fits, not-below, pos-back, pos-fits}
 use Rattle.price.proofs.split.Statement.{statement}
 use Rattle.price.proofs.split.Tie as tie
-use Rattle.price.proofs.split.Reads as reads
-use Rattle.price.proofs.split.Lts as lts
 
 -- -1 less what the machine computes with is how far under -1 it is
 module _ (z : ℤ) (f : SFits w32 z) (h : ltZ (toZ w32 (ofZ w32 z)) (pos 0) ≡ true) where

@@ -7,8 +7,6 @@ use mir.Facts.{toZ-pos, toZ-neg}
 use borrow.Author.Needs.{needs}
 use Rattle.price.proofs.under.Statement.{statement}
 use Rattle.price.proofs.under.Tie as tie
-use Rattle.price.proofs.under.Reads as reads
-use Rattle.price.proofs.under.Lts as lts
 
 under-one : (k : ℕ) → negsuc 0 -ℤ pos k ≡ negsuc k
 under-one zero = refl

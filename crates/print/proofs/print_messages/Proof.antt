@@ -2,33 +2,36 @@ use mathlib.Core.Path.{_≡_, refl, ap, _∙_}
 use Prim.Native.Nat.{_+_, _-_, _≤_, min}
 use native.Mathlib.Omega.{arith}
 use lib.ListN.{length}
-use Rattle.session.specs.Lines.{leftAt}
+use Rattle.state.specs.View.{stateOf}
 use Rattle.session.proofs.PutsLaws.{puts-same}
-use Rattle.session.proofs.LeftLaws.{left-all, left-last}
-use Rattle.types.specs.View.{stateOf}
+use Rattle.session.proofs.RunLaws.{leftText, left-all, left-last, some-told, none-lost}
 use borrow.Author.Needs.{needs}
 use Rattle.print.proofs.print_messages.Statement.{statement}
 use Rattle.print.proofs.print_messages.Tie as tie
 
 abbrev Inv-loop : tie.InvT-loop
-Inv-loop page₀ tape count at p₀ total₀ page p total =
-    (length page ≡ length page₀)
+Inv-loop longs₀ words₀ list₀ page₀ tape count at p₀ total₀ longs words list page p total =
+    (length longs ≡ length longs₀)
+    × (length words ≡ length words₀)
+    × (length list ≡ length list₀)
+    × (length page ≡ length page₀)
     × (length page ≡ 512000)
     × (p .at ≤ 256000)
-    × (min (total + (p .at + length (leftAt tape count p))) 1000000000000000000 ≡ min (p₀ .at + length (leftAt tape count p₀)) 1000000000000000000)
+    × (min (total + (p .at + length (leftText tape count (p .position) (p .next) (stateOf longs words)))) 1000000000000000000 ≡ min (p₀ .at + length (leftText tape count (p₀ .position) (p₀ .next) (stateOf longs₀ words₀))) 1000000000000000000)
 
 abbrev μ-loop : tie.MeasureT-loop
-μ-loop page₀ tape count at p₀ total₀ page p total = count - p .position
+μ-loop longs₀ words₀ list₀ page₀ tape count at p₀ total₀ longs words list page p total = count - p .position
 
 put-title-requires : tie.Need-put-title-requires Inv-loop μ-loop
 put-title-requires c κs = search needs
 
 loop-holds : tie.Need-loop-holds Inv-loop μ-loop
 loop-holds c =
-    let t = c .before .before .before .put-title .ensures in
+    let T = c .before .before in
+    let t = T .put-title .ensures in
     let place = t .0 .place in
     let few = t .1 in
-    (refl, puts-same _ _ _ _ _ (t .0) ∙ c .before .before .before .before .before .before .before .pre, omega (arith, place, few), omega arith)
+    (refl, refl, refl, refl, puts-same _ _ _ _ _ (t .0) ∙ T .before .before .before .before .before .before .before .pre .2, omega (arith, place, few), omega arith)
 
 run-requires : tie.Need-run-requires Inv-loop μ-loop
 run-requires c κs = search needs
@@ -44,23 +47,23 @@ count-up-requires c κs = search needs
 
 loop-less : tie.Need-loop-less Inv-loop μ-loop
 loop-less c =
-    let h = c .before .before .before .before .before .before .before .before .if1 .taken in
-    let low = c .before .before .before .before .before .before .before .before .before .before .loop .inv .2 in
-    let o = c .before .before .before .before .before .before .run .ensures .on h (omega (arith, low)) in
+    let R = c .before .before .before .before .before .before .before .before .before .before .before .before in
+    let I = R .before .before .before .before .before in
+    let h = I .if1 .taken in
+    let low = I .before .before .loop .inv .5 in
+    let o = some-told _ _ _ _ _ _ _ _ _ (R .run .ensures) h (omega (arith, low)) in
     omega (arith, o, h)
 
 loop-again : tie.Need-loop-again Inv-loop μ-loop
 loop-again c =
-    let L = c .before .before .before .before .before .before .before .before .before .before .loop in
-    let d = c .before .before .before .before .before .before .run .ensures in
-    let t = c .before .before .turn-page .ensures in
+    let T = c .before .before in
+    let R = T .before .before .before .before .before .before .before .before .before .before in
+    let v = R .before .before .before .before .before .before .before .loop .inv in
+    let t = T .turn-page .ensures in
     let n = c .count-up .ensures in
-    let size = L .inv .1 in
-    let low = L .inv .2 in
-    let sum = L .inv .3 in
-    let w = d .whole (omega (arith, size)) (omega (arith, low)) .1 in
-    let same = d .toward .same in
-    (same ∙ L .inv .0, same ∙ size, omega (arith, t .1), omega (arith, n, w, t .0, sum))
+    let w = none-lost _ _ _ _ _ _ _ _ _ (R .run .ensures) (omega (arith, v .4)) (omega (arith, v .5)) .1 in
+    let same = puts-same _ _ _ _ _ (R .run .ensures .told .puts) in
+    (search needs, search needs, search needs, same ∙ v .3, same ∙ v .4, omega (arith, t .1), omega (arith, n, w, t .0, v .6))
 
 put-last-requires : tie.Need-put-last-requires Inv-loop μ-loop
 put-last-requires c κs = search needs
@@ -74,21 +77,32 @@ count-up-requires-2 c κs = search needs
 same-length : tie.Need-same-length Inv-loop μ-loop
 same-length c = search needs
 
+same-length-2 : tie.Need-same-length-2 Inv-loop μ-loop
+same-length-2 c = search needs
+
+same-length-3 : tie.Need-same-length-3 Inv-loop μ-loop
+same-length-3 c = search needs
+
+same-length-4 : tie.Need-same-length-4 Inv-loop μ-loop
+same-length-4 c = search needs
+
 returns : tie.Need-returns Inv-loop μ-loop
 returns c =
-    let L = c .before .before .before .before .before .before .before .before .before .before .loop in
-    let a = c .before .before .before .before .before .before .before .before .before .before .before .before .before .before .before .before .before .before .args in
-    let size = c .before .before .before .before .before .before .before .before .before .before .before .before .before .before .before .before .before .before .pre in
-    let t = c .before .before .before .before .before .before .before .before .before .before .before .before .before .before .put-title .ensures in
-    let l = c .before .before .before .before .before .put-last .ensures in
+    let P = c .before .before .before .before .before in
+    let E = P .before .before .before in
+    let L = E .before .before in
+    let T = L .before .before .before in
+    let B = T .before .before .before .before .before .before .before in
+    let a = B .args in
+    let t = T .put-title .ensures in
+    let l = P .put-last .ensures (L .loop .longs) in
     let n = c .count-up2 .ensures in
-    let p = L .p in
-    let last = ap length (left-last (a .tape .now) (a .b .count) (p .position) (p .next) (stateOf (p .state)) (c .before .before .before .before .before .before .before .before .if1 .left)) in
-    let all = ap length (left-all (a .tape .now) (a .b .count) (a .b .at) (stateOf (a .b .state))) in
+    let p = L .loop .p in
+    let last = ap length (left-last (a .tape .now) (a .b .count) (p .position) (p .next) (stateOf (L .loop .longs) (L .loop .words)) (E .if1 .left)) in
+    let all = ap length (left-all (a .tape .now) (a .b .count) (a .b .at) (stateOf (a .longs .now) (a .words .now))) in
     let first = t .0 .place in
     let end = l .0 .place in
-    let sum = L .inv .3 in
-    omega (arith, n, end, sum, last, all, first, size, t .1, l .1, L .inv .1, L .inv .2)
+    omega (arith, n, end, L .loop .inv .6, last, all, first, B .pre .2, t .1, l .1, L .loop .inv .4, L .loop .inv .5)
 
 pub print-messages-spec : {M : Type 1} → statement M
 print-messages-spec =
@@ -108,4 +122,7 @@ print-messages-spec =
     write-page-requires
     count-up-requires-2
     same-length
+    same-length-2
+    same-length-3
+    same-length-4
     returns)

@@ -3,7 +3,7 @@ use native.Mathlib.Omega.{arith}
 use lib.ListN.{length, length-append, drop}
 use Rattle.rules.specs.Tape.{messagesFrom}
 use Rattle.rules.specs.Print.{titleLine, linesFrom}
-use Rattle.types.specs.View.{stateOf}
+use Rattle.state.specs.View.{stateOf}
 use Rattle.text.specs.Text.{lineText, linesText}
 use Rattle.session.proofs.TapeLaws.{back-text, read-text}
 use borrow.Author.Needs.{needs}
@@ -13,23 +13,42 @@ use Rattle.print.proofs.print_tape.Tie as tie
 blank-page-requires : tie.Need-blank-page-requires
 blank-page-requires c κs = search needs
 
+slice-aggregate-begin : tie.Need-slice-aggregate-begin
+slice-aggregate-begin c = search needs
+
+slice-aggregate-begin-2 : tie.Need-slice-aggregate-begin-2
+slice-aggregate-begin-2 c = search needs
+
 begin-requires : tie.Need-begin-requires
 begin-requires c κs = search needs
 
 slice-aggregate-print-messages : tie.Need-slice-aggregate-print-messages
 slice-aggregate-print-messages c = search needs
 
+slice-aggregate-print-messages-2 : tie.Need-slice-aggregate-print-messages-2
+slice-aggregate-print-messages-2 c = search needs
+
+slice-aggregate-print-messages-3 : tie.Need-slice-aggregate-print-messages-3
+slice-aggregate-print-messages-3 c = search needs
+
+slice-aggregate-print-messages-4 : tie.Need-slice-aggregate-print-messages-4
+slice-aggregate-print-messages-4 c = search needs
+
 print-messages-requires : tie.Need-print-messages-requires
 print-messages-requires c κs = search needs
 
 returns : tie.Need-returns
 returns c =
-    let g = c .before .before .before .before .before .begin in
-    let b = g .result in
-    let tape = c .before .before .before .before .before .before .before .before .args .tape .now in
-    let all = ap length (read-text tape b (g .ensures) (c .before .before .before .if1 .taken)) in
-    let two = length-append (lineText titleLine) (linesText (linesFrom 1 (stateOf (b .state)) (messagesFrom (b .count) (drop (b .at) tape)))) in
-    let r = c .before .print-messages .ensures in
+    let M = c .before .before .before .before in
+    let I = M .before .before .before .before .before in
+    let G = I .before .before .before .before in
+    let tape = G .before .before .before .before .before .args .tape .now in
+    let b = G .begin .result in
+    let l = G .begin .last .0 in
+    let w = G .begin .last .1 .0 in
+    let all = ap length (read-text _ _ tape l w b (G .begin .ensures) (I .if1 .taken)) in
+    let two = length-append (lineText titleLine) (linesText (linesFrom 1 (stateOf l w) (messagesFrom (b .count) (drop (b .at) tape)))) in
+    let r = M .print-messages .ensures in
     omega (arith, all, two, r)
 
 slice-aggregate-put-refused : tie.Need-slice-aggregate-put-refused
@@ -49,22 +68,29 @@ count-up-requires c κs = search needs
 
 returns-2 : tie.Need-returns-2
 returns-2 c =
-    let g = c .before .before .before .before .before .before .before .before .begin in
-    let all = ap length (back-text (c .before .before .before .before .before .before .before .before .before .before .before .args .tape .now) (g .result) (g .ensures) (c .before .before .before .before .before .before .if1 .left)) in
-    let l = c .before .before .before .before .put-refused .ensures in
+    let P = c .before .before .before .before in
+    let E = P .before .before in
+    let G = E .before .before .before .before in
+    let tape = G .before .before .before .before .before .args .tape .now in
+    let all = ap length (back-text _ _ tape (G .begin .last .0) (G .begin .last .1 .0) (G .begin .result) (G .begin .ensures) (E .if1 .left)) in
+    let l = P .put-refused .ensures in
     let place = l .0 .place in
-    let few = l .1 in
-    let size = c .before .before .before .before .before .before .before .before .before .blank-page .ensures in
+    let size = G .before .before .before .blank-page .ensures in
     let r = c .count-up .ensures in
-    omega (arith, all, place, few, size, r)
+    omega (arith, all, place, l .1, size, r)
 
 pub print-tape-spec : {M : Type 1} → statement M
 print-tape-spec =
     tie.close
     (tie.spec
     blank-page-requires
+    slice-aggregate-begin
+    slice-aggregate-begin-2
     begin-requires
     slice-aggregate-print-messages
+    slice-aggregate-print-messages-2
+    slice-aggregate-print-messages-3
+    slice-aggregate-print-messages-4
     print-messages-requires
     returns
     slice-aggregate-put-refused

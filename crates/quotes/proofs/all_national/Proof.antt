@@ -11,9 +11,6 @@ use Rattle.quotes.proofs.LegLaws.{quotesFrom, next-leg, no-leg, no-bid,
 use borrow.Author.Needs.{needs}
 use Rattle.quotes.proofs.all_national.Statement.{statement}
 use Rattle.quotes.proofs.all_national.Tie as tie
-use Rattle.quotes.proofs.all_national.Reads as reads
-use Rattle.quotes.proofs.all_national.Lts as lts
-use Rattle.state.proofs.leg_count.Reads as leg-count-reads
 
 abbrev ofQuotes : List Leg → List Quote → Bool
 ofQuotes ls qs = allNational qs

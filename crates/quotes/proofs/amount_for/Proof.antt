@@ -2,14 +2,18 @@ use borrow.Author.Tests.{eq-eqb, ne-eqb}
 use borrow.Author.Needs.{needs}
 use Rattle.quotes.proofs.amount_for.Statement.{statement}
 use Rattle.quotes.proofs.amount_for.Tie as tie
-use Rattle.quotes.proofs.amount_for.Reads as reads
-use Rattle.quotes.proofs.amount_for.Lts as lts
+
+cast-if1 : tie.Need-cast-if1
+cast-if1 c = search needs
 
 shared-slice-read-result : tie.Need-shared-slice-read-result
 shared-slice-read-result c = search needs
 
 returns : tie.Need-returns
 returns c longs = rw (eq-eqb _ _ (c .before .if1 .taken))
+
+cast-if2 : tie.Need-cast-if2
+cast-if2 c = search needs
 
 add-result : tie.Need-add-result
 add-result c = search needs
@@ -39,8 +43,10 @@ pub amount-for-spec : {M : Type 1} → statement M
 amount-for-spec =
     tie.close
     (tie.spec
+    cast-if1
     shared-slice-read-result
     returns
+    cast-if2
     add-result
     mul-result
     shared-slice-read-result-2

@@ -1,8 +1,6 @@
 use borrow.Author.Needs.{needs}
 use Rattle.quotes.proofs.beyond.Statement.{statement}
 use Rattle.quotes.proofs.beyond.Tie as tie
-use Rattle.quotes.proofs.beyond.Reads as reads
-use Rattle.quotes.proofs.beyond.Lts as lts
 
 add-result : tie.Need-add-result
 add-result c = search needs

@@ -2,9 +2,6 @@ use Rattle.rules.specs.Prices.{derived}
 use borrow.Author.Needs.{needs}
 use Rattle.quotes.proofs.derived.Statement.{statement}
 use Rattle.quotes.proofs.derived.Tie as tie
-use Rattle.quotes.proofs.derived.Reads as reads
-use Rattle.quotes.proofs.derived.Lts as lts
-use Rattle.quotes.proofs.priced.Reads as priced-reads
 
 priced-requires : tie.Need-priced-requires
 priced-requires c κs = search needs

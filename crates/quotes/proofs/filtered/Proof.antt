@@ -6,16 +6,6 @@ use Rattle.quotes.proofs.LegLaws.{not-filtered, filtered-by}
 use borrow.Author.Needs.{needs}
 use Rattle.quotes.proofs.filtered.Statement.{statement}
 use Rattle.quotes.proofs.filtered.Tie as tie
-use Rattle.quotes.proofs.filtered.Reads as reads
-use Rattle.quotes.proofs.filtered.Lts as lts
-use Rattle.number.proofs.wide.Reads as wide-reads
-use Rattle.quotes.proofs.all_national.Reads as all-national-reads
-use Rattle.quotes.proofs.amount_for.Reads as amount-for-reads
-use Rattle.quotes.proofs.beyond.Reads as beyond-reads
-use Rattle.quotes.proofs.priced.Reads as priced-reads
-use Rattle.quotes.proofs.smallest.Reads as smallest-reads
-use Rattle.quotes.proofs.smallest_ratio.Reads as smallest-ratio-reads
-use Rattle.quotes.proofs.times.Reads as times-reads
 
 all-national-requires : tie.Need-all-national-requires
 all-national-requires c κs = search needs

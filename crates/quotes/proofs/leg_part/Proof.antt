@@ -5,13 +5,6 @@ use Rattle.quotes.proofs.LegLaws.{part-bought, part-sold}
 use borrow.Author.Needs.{needs}
 use Rattle.quotes.proofs.leg_part.Statement.{statement}
 use Rattle.quotes.proofs.leg_part.Tie as tie
-use Rattle.quotes.proofs.leg_part.Reads as reads
-use Rattle.quotes.proofs.leg_part.Lts as lts
-use Rattle.quotes.proofs.is_b.Reads as is-b-reads
-use Rattle.quotes.proofs.price_used.Reads as price-used-reads
-use Rattle.quotes.proofs.times.Reads as times-reads
-use Rattle.quotes.proofs.units_shown.Reads as units-shown-reads
-use Rattle.state.proofs.ratio_at.Reads as ratio-at-reads
 
 ratio-at-requires : tie.Need-ratio-at-requires
 ratio-at-requires c κs = search needs

@@ -7,10 +7,6 @@ use Rattle.quotes.proofs.QuoteLaws.{Lowering, lowering-start, lowering-
 use borrow.Author.Needs.{needs}
 use Rattle.quotes.proofs.lower.Statement.{statement}
 use Rattle.quotes.proofs.lower.Tie as tie
-use Rattle.quotes.proofs.lower.Reads as reads
-use Rattle.quotes.proofs.lower.Lts as lts
-use Rattle.quotes.proofs.lower_leg.Reads as lower-leg-reads
-use Rattle.state.proofs.leg_count.Reads as leg-count-reads
 
 abbrev Inv-loop : tie.InvT-loop
 Inv-loop words₀ ask units n k₀ words k = (k ≤ n) × (n ≡ legCount words₀) × WordsSized words × Lowering ask units words₀ words k

@@ -7,14 +7,6 @@ use Rattle.state.specs.View.{legAt}
 use borrow.Author.Needs.{needs}
 use Rattle.quotes.proofs.lower_leg.Statement.{statement}
 use Rattle.quotes.proofs.lower_leg.Tie as tie
-use Rattle.quotes.proofs.lower_leg.Reads as reads
-use Rattle.quotes.proofs.lower_leg.Lts as lts
-use Rattle.quotes.proofs.lower_quote.Reads as lower-quote-reads
-use Rattle.quotes.proofs.put_quote.Reads as put-quote-reads
-use Rattle.quotes.proofs.quote_at.Reads as quote-at-reads
-use Rattle.quotes.proofs.times.Reads as times-reads
-use Rattle.quotes.proofs.uses_ask.Reads as uses-ask-reads
-use Rattle.state.proofs.ratio_at.Reads as ratio-at-reads
 
 uses-ask-requires : tie.Need-uses-ask-requires
 uses-ask-requires c κs = search needs

@@ -2,8 +2,6 @@ use borrow.Author.Tests.{lt-ltb, le-ltb}
 use borrow.Author.Needs.{needs}
 use Rattle.quotes.proofs.lower_quote.Statement.{statement}
 use Rattle.quotes.proofs.lower_quote.Tie as tie
-use Rattle.quotes.proofs.lower_quote.Reads as reads
-use Rattle.quotes.proofs.lower_quote.Lts as lts
 
 cast-if2 : tie.Need-cast-if2
 cast-if2 c = search needs

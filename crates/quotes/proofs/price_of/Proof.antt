@@ -4,9 +4,6 @@ use Rattle.state.specs.Layout as L
 use borrow.Author.Needs.{needs}
 use Rattle.quotes.proofs.price_of.Statement.{statement}
 use Rattle.quotes.proofs.price_of.Tie as tie
-use Rattle.quotes.proofs.price_of.Reads as reads
-use Rattle.quotes.proofs.price_of.Lts as lts
-use Rattle.quotes.proofs.price_used.Reads as price-used-reads
 
 price-used-requires : tie.Need-price-used-requires
 price-used-requires c κs = search needs

@@ -8,12 +8,6 @@ use Rattle.quotes.proofs.LegLaws.{no-leg, Summed, summed-none, summed-n
 use borrow.Author.Needs.{needs}
 use Rattle.quotes.proofs.priced.Statement.{statement}
 use Rattle.quotes.proofs.priced.Tie as tie
-use Rattle.quotes.proofs.priced.Reads as reads
-use Rattle.quotes.proofs.priced.Lts as lts
-use Rattle.number.proofs.lesser.Reads as lesser-reads
-use Rattle.quotes.proofs.leg_part.Reads as leg-part-reads
-use Rattle.quotes.proofs.less.Reads as less-reads
-use Rattle.state.proofs.leg_count.Reads as leg-count-reads
 
 abbrev Inv-loop : tie.InvT-loop
 Inv-loop words national ask n bought₀ sold₀ units₀ k₀ bought sold units k = (k ≤ n) × (n ≡ legCount words) × Summed national ask words bought sold units k

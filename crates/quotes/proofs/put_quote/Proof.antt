@@ -4,8 +4,6 @@ use Rattle.quotes.proofs.QuoteLaws.{requoted}
 use borrow.Author.Needs.{needs}
 use Rattle.quotes.proofs.put_quote.Statement.{statement}
 use Rattle.quotes.proofs.put_quote.Tie as tie
-use Rattle.quotes.proofs.put_quote.Reads as reads
-use Rattle.quotes.proofs.put_quote.Lts as lts
 
 add-words : tie.Need-add-words
 add-words c = search needs

@@ -1,8 +1,6 @@
 use borrow.Author.Tests.{lt-ltb, le-ltb}
 use Rattle.quotes.proofs.smaller.Statement.{statement}
 use Rattle.quotes.proofs.smaller.Tie as tie
-use Rattle.quotes.proofs.smaller.Reads as reads
-use Rattle.quotes.proofs.smaller.Lts as lts
 
 returns : tie.Need-returns
 returns c = rw (lt-ltb _ _ (c .if1 .taken))

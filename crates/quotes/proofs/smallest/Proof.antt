@@ -8,11 +8,6 @@ use Rattle.quotes.proofs.LegLaws.{legsFrom, quotesFrom, next-leg, no-le
 use borrow.Author.Needs.{needs}
 use Rattle.quotes.proofs.smallest.Statement.{statement}
 use Rattle.quotes.proofs.smallest.Tie as tie
-use Rattle.quotes.proofs.smallest.Reads as reads
-use Rattle.quotes.proofs.smallest.Lts as lts
-use Rattle.quotes.proofs.price_of.Reads as price-of-reads
-use Rattle.quotes.proofs.smaller.Reads as smaller-reads
-use Rattle.state.proofs.leg_count.Reads as leg-count-reads
 
 abbrev Inv-loop : tie.InvT-loop
 Inv-loop words ask n p₀ k₀ p k =

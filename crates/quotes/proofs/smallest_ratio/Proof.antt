@@ -10,11 +10,6 @@ use Rattle.quotes.proofs.LegLaws.{legsFrom, next-leg, no-leg}
 use borrow.Author.Needs.{needs}
 use Rattle.quotes.proofs.smallest_ratio.Statement.{statement}
 use Rattle.quotes.proofs.smallest_ratio.Tie as tie
-use Rattle.quotes.proofs.smallest_ratio.Reads as reads
-use Rattle.quotes.proofs.smallest_ratio.Lts as lts
-use Rattle.number.proofs.lesser.Reads as lesser-reads
-use Rattle.state.proofs.leg_count.Reads as leg-count-reads
-use Rattle.state.proofs.ratio_at.Reads as ratio-at-reads
 
 abbrev ofLegs : List Leg → List Quote → ℕ
 ofLegs ls qs = smallestRatio ls

@@ -7,9 +7,6 @@ use Rattle.quotes.specs.Uses.{mostCost}
 use borrow.Author.Needs.{needs}
 use Rattle.quotes.proofs.times.Statement.{statement}
 use Rattle.quotes.proofs.times.Tie as tie
-use Rattle.quotes.proofs.times.Reads as reads
-use Rattle.quotes.proofs.times.Lts as lts
-use Rattle.number.proofs.wide.Reads as wide-reads
 
 wide-requires : tie.Need-wide-requires
 wide-requires c κs = search needs

@@ -6,10 +6,6 @@ use Rattle.quotes.proofs.LegLaws.{no-ratio, ratio-one}
 use borrow.Author.Needs.{needs}
 use Rattle.quotes.proofs.units_shown.Statement.{statement}
 use Rattle.quotes.proofs.units_shown.Tie as tie
-use Rattle.quotes.proofs.units_shown.Reads as reads
-use Rattle.quotes.proofs.units_shown.Lts as lts
-use Rattle.quotes.proofs.size_used.Reads as size-used-reads
-use Rattle.state.proofs.ratio_at.Reads as ratio-at-reads
 
 size-used-requires : tie.Need-size-used-requires
 size-used-requires c κs = search needs

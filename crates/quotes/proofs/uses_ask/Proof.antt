@@ -3,9 +3,6 @@ use mathlib.Core.Bool.{not}
 use borrow.Author.Needs.{needs}
 use Rattle.quotes.proofs.uses_ask.Statement.{statement}
 use Rattle.quotes.proofs.uses_ask.Tie as tie
-use Rattle.quotes.proofs.uses_ask.Reads as reads
-use Rattle.quotes.proofs.uses_ask.Lts as lts
-use Rattle.quotes.proofs.is_b.Reads as is-b-reads
 
 is-b-requires : tie.Need-is-b-requires
 is-b-requires c κs = search needs

@@ -4,9 +4,6 @@ use Rattle.rules.specs.Turn.{entry}
 use borrow.Author.Needs.{needs}
 use Rattle.records.proofs.contra_from.Statement.{statement}
 use Rattle.records.proofs.contra_from.Tie as tie
-use Rattle.records.proofs.contra_from.Reads as reads
-use Rattle.records.proofs.contra_from.Lts as lts
-use Rattle.records.proofs.narrowed.Reads as narrowed-reads
 
 returns : tie.Need-returns
 returns c = rw (c .if1 .taken)

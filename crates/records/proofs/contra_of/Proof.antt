@@ -2,8 +2,6 @@ use Rattle.records.proofs.RecordLaws.{contra-back}
 use borrow.Author.Needs.{needs}
 use Rattle.records.proofs.contra_of.Statement.{statement}
 use Rattle.records.proofs.contra_of.Tie as tie
-use Rattle.records.proofs.contra_of.Reads as reads
-use Rattle.records.proofs.contra_of.Lts as lts
 
 add-result : tie.Need-add-result
 add-result c = search needs

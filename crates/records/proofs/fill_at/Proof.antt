@@ -4,9 +4,6 @@ use borrow.Author.Tests.{lt-ltb, le-ltb}
 use borrow.Author.Needs.{needs}
 use Rattle.records.proofs.fill_at.Statement.{statement}
 use Rattle.records.proofs.fill_at.Tie as tie
-use Rattle.records.proofs.fill_at.Reads as reads
-use Rattle.records.proofs.fill_at.Lts as lts
-use Rattle.records.proofs.fill_from.Reads as fill-from-reads
 
 mul-b : tie.Need-mul-b
 mul-b c = search needs

@@ -4,12 +4,6 @@ use mir.Val.{toZ, ofZ}
 use borrow.Author.Needs.{needs}
 use Rattle.records.proofs.fill_from.Statement.{statement}
 use Rattle.records.proofs.fill_from.Tie as tie
-use Rattle.records.proofs.fill_from.Reads as reads
-use Rattle.records.proofs.fill_from.Lts as lts
-use Rattle.price.proofs.cents.Reads as cents-reads
-use Rattle.records.proofs.contra_from.Reads as contra-from-reads
-use Rattle.records.proofs.narrowed.Reads as narrowed-reads
-use Rattle.records.proofs.rank_from.Reads as rank-from-reads
 
 narrowed-requires : tie.Need-narrowed-requires
 narrowed-requires c κs = search needs

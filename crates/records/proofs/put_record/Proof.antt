@@ -4,8 +4,6 @@ use Rattle.records.proofs.RecordLaws.{adds-one, adds-full}
 use borrow.Author.Needs.{needs}
 use Rattle.records.proofs.put_record.Statement.{statement}
 use Rattle.records.proofs.put_record.Tie as tie
-use Rattle.records.proofs.put_record.Reads as reads
-use Rattle.records.proofs.put_record.Lts as lts
 
 mul-b : tie.Need-mul-b
 mul-b c = search needs

@@ -1,8 +1,6 @@
 use borrow.Author.Tests.{ne-eqb}
 use Rattle.records.proofs.rank_from.Statement.{statement}
 use Rattle.records.proofs.rank_from.Tie as tie
-use Rattle.records.proofs.rank_from.Reads as reads
-use Rattle.records.proofs.rank_from.Lts as lts
 
 returns : tie.Need-returns
 returns c = rw (c .if1 .taken)

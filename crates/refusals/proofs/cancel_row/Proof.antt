@@ -12,9 +12,9 @@ first-requires-2 : tie.Need-first-requires-2
 first-requires-2 c κs = search needs
 
 returns : tie.Need-returns
-returns c f i p s t b =
-    let q = c .before .before .before .standing-of .ensures f i p s in
-    rw (c .first2 .ensures, c .before .before .first .ensures, b, q .2, q .0)
+returns c = λ longs.
+    let q = c .before .before .before .standing-of .ensures longs in
+    rw (c .first2 .ensures, c .before .before .first .ensures, q .1, q .0)
 
 pub cancel-row-spec : {M : Type 1} → statement M
 cancel-row-spec = tie.close (tie.spec standing-of-requires first-requires first-requires-2 returns)

@@ -1,7 +1,7 @@
 use mathlib.Core.Path.{ap, _∙_}
-use Rattle.rules.specs.Prices.{isLimit}
 use mir.Syntax.{w32}
 use mir.Facts.{toZ-ofZ}
+use Rattle.rules.specs.Prices.{isLimit}
 use borrow.Author.Needs.{needs}
 use Rattle.refusals.proofs.good_fields.Statement.{statement}
 use Rattle.refusals.proofs.good_fields.Tie as tie

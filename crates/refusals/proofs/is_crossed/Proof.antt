@@ -1,7 +1,7 @@
 use mathlib.Core.Path.{ap, _∙_}
-use Rattle.rules.specs.Refusals.{natural}
 use mir.Syntax.{w32}
 use mir.Facts.{toZ-ofZ}
+use Rattle.rules.specs.Refusals.{natural}
 use borrow.Author.Needs.{needs}
 use Rattle.refusals.proofs.is_crossed.Statement.{statement}
 use Rattle.refusals.proofs.is_crossed.Tie as tie

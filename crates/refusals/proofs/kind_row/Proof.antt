@@ -1,11 +1,3 @@
-use mathlib.Core.Path.{refl}
-use Prim.Native.Nat.{ℕ}
-use Rattle.rules.specs.Book.{Entry}
-use Rattle.rules.specs.State.{State}
-use Rattle.types.specs.declared.Clock.{Clock}
-use Rattle.types.specs.View.{shownBy}
-use Rattle.refusals.specs.Shown.{shownState}
-use Rattle.refusals.proofs.RowLaws.{pending-is}
 use borrow.Author.Needs.{needs}
 use Rattle.refusals.proofs.kind_row.Statement.{statement}
 use Rattle.refusals.proofs.kind_row.Tie as tie
@@ -49,30 +41,26 @@ cancel-row-requires c κs = search needs
 enum-told : tie.Need-enum-told
 enum-told c = search needs
 
--- the state that the arguments show
-abbrev state : tie.Start → (ℕ → Entry) → Clock → State
-state c f k = shownState (c .args .strategy) (c .args .market) (shownBy f (c .args .n)) (c .args .auction) k
-
 returns : tie.Need-returns
-returns c f i p s k = rw (c .before .before .b .given .1) (c .local-row .ensures (state (c .before .before .before .before) f k) refl)
+returns c = λ longs. rw (c .before .before .b .given .1) (c .local-row .ensures longs)
 
 returns-2 : tie.Need-returns-2
-returns-2 c f i p s k = rw (c .before .before .b2 .given .1) (c .national-row .ensures (state (c .before .before .before .before) f k) refl)
+returns-2 c = λ longs. rw (c .before .before .b2 .given .1) (c .national-row .ensures longs)
 
 returns-3 : tie.Need-returns-3
-returns-3 c f i p s k = rw (c .before .before .b3 .given .1) (c .order-row .ensures f i s (c .before .before .before .before .args .auction) k)
+returns-3 c = λ longs. rw (c .before .before .b3 .given .1) (c .order-row .ensures longs)
 
 returns-4 : tie.Need-returns-4
-returns-4 c f i p s k = rw (c .before .before .b4 .given .1) (c .response-row .ensures f i s (state (c .before .before .before .before) f k) refl (pending-is (c .before .before .before .before .args .auction .pending) _))
+returns-4 c = λ longs. rw (c .before .before .b4 .given .1) (c .response-row .ensures longs)
 
 returns-5 : tie.Need-returns-5
-returns-5 c f i p s k = rw (c .before .before .b5 .given .1) (c .modify-row .ensures f i p s (state (c .before .before .before .before) f k) refl (pending-is (c .before .before .before .before .args .auction .pending) _))
+returns-5 c = λ longs. rw (c .before .before .b5 .given .1) (c .modify-row .ensures longs)
 
 returns-6 : tie.Need-returns-6
-returns-6 c f i p s k = rw (c .before .before .b6 .given .1) (c .cancel-row .ensures f i p s (state (c .before .before .before .before) f k) refl)
+returns-6 c = λ longs. rw (c .before .before .b6 .given .1) (c .cancel-row .ensures longs)
 
 returns-7 : tie.Need-returns-7
-returns-7 c f i p s k = rw (c .enum-told .given .1)
+returns-7 c = λ longs. rw (c .enum-told .given .1)
 
 pub kind-row-spec : {M : Type 1} → statement M
 kind-row-spec =

@@ -1,7 +1,7 @@
 use mathlib.Core.Path.{ap, _∙_}
-use Rattle.rules.specs.Refusals.{goodLocal}
 use mir.Syntax.{w32}
 use mir.Facts.{toZ-ofZ}
+use Rattle.rules.specs.Refusals.{goodLocal}
 use Rattle.refusals.proofs.RowLaws.{legs-length}
 use borrow.Author.Needs.{needs}
 use Rattle.refusals.proofs.local_row.Statement.{statement}
@@ -32,8 +32,8 @@ first-requires-3 : tie.Need-first-requires-3
 first-requires-3 c κs = search needs
 
 returns : tie.Need-returns
-returns c s e =
-    let a = c .before .before .before .before .before .before .before .before .before .before .args in
+returns c = λ longs.
+    let a = c .before .before .before .before .before .before .before .before .before .before .before .args in
     rw (
       c .first3 .ensures,
       c .before .before .first2 .ensures,
@@ -42,8 +42,7 @@ returns c s e =
       c .before .before .before .before .before .good-local2 .ensures ∙ ap (λ z. goodLocal z (a .q .asksize)) (toZ-ofZ {w = w32} {z = a .q .ask} (search needs)),
       c .before .before .before .before .before .before .before .good-local .ensures ∙ ap (λ z. goodLocal z (a .q .bidsize)) (toZ-ofZ {w = w32} {z = a .q .bid} (search needs)),
       c .before .before .before .before .before .before .before .before .before .leg-count .ensures,
-      e,
-      legs-length (a .strategy),
+      legs-length (a .words .now),
     )
 
 pub local-row-spec : {M : Type 1} → statement M

@@ -1,7 +1,7 @@
 use mathlib.Core.Path.{ap, _∙_}
-use Rattle.rules.specs.Refusals.{goodNational}
 use mir.Syntax.{w32}
 use mir.Facts.{toZ-ofZ}
+use Rattle.rules.specs.Refusals.{goodNational}
 use Rattle.refusals.proofs.RowLaws.{legs-length}
 use borrow.Author.Needs.{needs}
 use Rattle.refusals.proofs.national_row.Statement.{statement}
@@ -26,9 +26,16 @@ first-requires-2 : tie.Need-first-requires-2
 first-requires-2 c κs = search needs
 
 returns : tie.Need-returns
-returns c s e =
-    let a = c .before .before .before .before .before .before .before .before .args in
-    rw (c .first2 .ensures, c .before .before .first .ensures, c .before .before .before .good-national2 .ensures ∙ ap goodNational (toZ-ofZ {w = w32} {z = a .q .ask} (search needs)), c .before .before .before .before .before .good-national .ensures ∙ ap goodNational (toZ-ofZ {w = w32} {z = a .q .bid} (search needs)), c .before .before .before .before .before .before .before .leg-count .ensures, e, legs-length (a .strategy))
+returns c = λ longs.
+    let a = c .before .before .before .before .before .before .before .before .before .args in
+    rw (
+      c .first2 .ensures,
+      c .before .before .first .ensures,
+      c .before .before .before .good-national2 .ensures ∙ ap goodNational (toZ-ofZ {w = w32} {z = a .q .ask} (search needs)),
+      c .before .before .before .before .before .good-national .ensures ∙ ap goodNational (toZ-ofZ {w = w32} {z = a .q .bid} (search needs)),
+      c .before .before .before .before .before .before .before .leg-count .ensures,
+      legs-length (a .words .now),
+    )
 
 pub national-row-spec : {M : Type 1} → statement M
 national-row-spec =

@@ -1,9 +1,9 @@
 use mathlib.Core.Path.{ap, _∙_}
-use Rattle.rules.specs.Refusals.{goodFields}
-use Rattle.rules.specs.Prices.{offset}
 use mir.Syntax.{w32}
-use mir.Val.{SFits}
 use mir.Facts.{toZ-ofZ}
+use mir.Val.{SFits}
+use Rattle.rules.specs.Prices.{offset}
+use Rattle.rules.specs.Refusals.{goodFields}
 use borrow.Author.Needs.{needs}
 use Rattle.refusals.proofs.order_row.Statement.{statement}
 use Rattle.refusals.proofs.order_row.Tie as tie
@@ -39,18 +39,18 @@ first-requires-4 : tie.Need-first-requires-4
 first-requires-4 c κs = search needs
 
 returns : tie.Need-returns
-returns c f i s u k =
-    let a = c .before .before .before .before .before .before .before .before .before .before .before .before .before .before .args in
+returns c = λ longs.
+    let a = c .before .before .before .before .before .before .before .before .before .before .before .before .before .before .before .args in
     let fits : SFits w32 (a .o .price) = search (needs, c .before .before .before .before .before .before .before .before .before .before .before .before .struct-told) in
     rw (
       c .first4 .ensures,
       c .before .first3 .ensures,
       c .before .before .first2 .ensures,
       c .before .before .before .before .first .ensures,
-      c .before .before .before .before .before .filtered .ensures,
+      c .before .before .before .before .before .filtered .ensures longs,
       c .before .before .before .before .before .before .offset .ensures ∙ ap offset (toZ-ofZ {w = w32} {z = a .o .price} fits),
-      c .before .before .before .before .before .before .before .before .before .open-counts .ensures f s .0,
-      c .before .before .before .before .before .before .before .before .before .before .is-open .ensures f i,
+      c .before .before .before .before .before .before .before .before .before .open-counts .ensures longs .0,
+      c .before .before .before .before .before .before .before .before .before .before .is-open .ensures longs,
       c .before .before .before .before .before .before .before .before .before .before .before .good-fields .ensures ∙ ap (goodFields (a .o .side) (a .o .id) (a .o .participant) (a .o .units)) (toZ-ofZ {w = w32} {z = a .o .price} fits),
       c .before .before .before .before .before .before .before .before .before .before .before .before .before .good-account .ensures,
     )

@@ -14,11 +14,11 @@ Inv-loop out₀ at line n m i₀ out i = (length out ≡ length out₀) × (i �
 abbrev μ-loop : tie.MeasureT-loop
 μ-loop out₀ at line n m i₀ out i = m - i
 
-sub-lesser : tie.Need-sub-lesser Inv-loop μ-loop
-sub-lesser c = search needs
+sub-lesser-size : tie.Need-sub-lesser-size Inv-loop μ-loop
+sub-lesser-size c = search needs
 
-lesser-requires : tie.Need-lesser-requires Inv-loop μ-loop
-lesser-requires c κs = search needs
+lesser-size-requires : tie.Need-lesser-size-requires Inv-loop μ-loop
+lesser-size-requires c κs = search needs
 
 loop-holds : tie.Need-loop-holds Inv-loop μ-loop
 loop-holds c =
@@ -46,7 +46,7 @@ loop-again c =
     let L = c .before .before .loop in
     let a = c .before .before .before .before .before .args in
     let p = c .before .before .before .before .before .pre in
-    let m = c .before .before .before .lesser .ensures in
+    let m = c .before .before .before .lesser-size .ensures in
     let e = next-byte (a .line .now) (L .i) (a .n) (omega (arith, c .before .loop-test .taken, m)) (omega (arith, p .0, p .1)) in
     let z : a .at + (L .i + 1) ≡ suc (a .at + L .i) = omega arith in
     (length-set (L .out) (a .at + L .i) _ ∙ L .inv .0, omega (arith, c .before .loop-test .taken), rw z (sym (ap (sets (L .out) (a .at + L .i)) e) ∙ L .inv .2))
@@ -62,7 +62,7 @@ returns c =
     let L = c .before .loop in
     let a = c .before .before .before .before .args in
     let p = c .before .before .before .before .pre in
-    let m = c .before .before .lesser .ensures in
+    let m = c .before .before .lesser-size .ensures in
     let f = L .inv in
     let t = c .loop-test .left in
     let l = f .0 in
@@ -75,8 +75,8 @@ add-spec =
     (tie.spec
     Inv-loop
     μ-loop
-    sub-lesser
-    lesser-requires
+    sub-lesser-size
+    lesser-size-requires
     loop-holds
     element-copy-out-out
     add-out

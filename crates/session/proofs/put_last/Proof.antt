@@ -1,8 +1,9 @@
 use native.Mathlib.Omega.{arith}
-use Rattle.session.specs.Lines.{PutsLine}
+use Prim.Native.Nat.{_≤_}
+use lib.ListN.{length}
 use Rattle.rules.specs.Print.{lastLine}
-use mathlib.Core.Path.{refl}
-use Rattle.types.specs.View.{entryAt}
+use Rattle.text.specs.Text.{lineText}
+use Rattle.session.specs.Lines.{mostLine, Puts}
 use Rattle.session.proofs.PutsLaws.{puts-line}
 use borrow.Author.Needs.{needs}
 use Rattle.session.proofs.put_last.Statement.{statement}
@@ -22,11 +23,16 @@ same-length c = search needs
 
 returns : tie.Need-returns
 returns c =
-    let s = c .before .before .before .before .before .before .before .before .before .before .before .args .t3 in
-    let l = c .before .before .before .before .before .put-last .ensures in
-    let n = c .before .before .before .before .before .before .before .open-counts .ensures (entryAt (s .book)) (λ i. refl) in
-    let h = c .before .before .before .before .before .before .before .open-counts .result in
-    let line : PutsLine (lastLine (h .orders) (h .responses)) _ _ _ _ = (puts-line (lastLine (h .orders) (h .responses)) _ _ _ _ _ _ _ (l .0) (l .1) (c .before .before .put .ensures), omega (arith, l .0, l .2)) in
+    λ longs.
+    let P = c .before .before in
+    let N = P .before .before .before in
+    let C = N .before .before in
+    let l = N .put-last .ensures in
+    let n = C .open-counts .ensures longs in
+    let h = C .open-counts .result in
+    let line : Puts (lineText (lastLine (h .orders) (h .responses))) _ _ _ _ × (length (lineText (lastLine (h .orders) (h .responses))) ≤ mostLine) =
+    (puts-line (lastLine (h .orders) (h .responses)) _ _ _ _ _ _ _ (l .0) (l .1) (P .put .ensures), omega (arith, l .0, l .2))
+    in
     rw (n .0, n .1) at line
 
 pub put-last-spec : {M : Type 1} → statement M

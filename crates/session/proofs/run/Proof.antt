@@ -1,37 +1,49 @@
 use mathlib.Core.Path.{_≡_, refl}
-use Prim.Native.Nat.{_+_, _-_, _≤_}
+use Prim.Native.Nat.{_-_}
 use native.Mathlib.Omega.{arith}
 use lib.ListN.{length}
-use Rattle.types.specs.View.{stateOf}
-use Rattle.session.specs.Lines.{mostText, leftText, Toward}
-use Rattle.session.proofs.PutsLaws.{toward-here, puts-room}
-use Rattle.session.proofs.LeftLaws.{message-told, message-whole, some-told}
+use Rattle.state.specs.View.{stateOf}
+use Rattle.session.specs.Lines.{AreTold}
+use Rattle.session.proofs.PutsLaws.{puts-same}
+use Rattle.session.proofs.RunLaws.{told-start, told-next, told-from}
 use borrow.Author.Needs.{needs}
 use Rattle.session.proofs.run.Statement.{statement}
 use Rattle.session.proofs.run.Tie as tie
 
 abbrev Inv-loop : tie.InvT-loop
-Inv-loop out₀ tape count most at₀ next₀ state₀ position₀ out at next state position =
-    Toward (leftText tape count position₀ next₀ (stateOf state₀)) out₀ at₀ (leftText tape count position next (stateOf state)) out at
-    × (at₀ ≤ length out₀ → at ≤ length out)
-    × (position₀ ≤ position)
-    × (position ≡ position₀ → at ≡ at₀)
-    × (most + mostText ≤ length out₀ → at₀ ≤ most + mostText → (at ≤ most + mostText) × (at + length (leftText tape count position next (stateOf state)) ≡ at₀ + length (leftText tape count position₀ next₀ (stateOf state₀))))
+Inv-loop longs₀ words₀ list₀ out₀ tape count most at₀ next₀ position₀ longs words list out at next position =
+    (length longs ≡ length longs₀)
+    × (length words ≡ length words₀)
+    × (length list ≡ length list₀)
+    × AreTold tape count (record { position = position₀; next = next₀; at = at₀ }) most (stateOf longs₀ words₀) out₀ (stateOf longs words) (record { position = position; next = next; at = at }) out
 
 abbrev μ-loop : tie.MeasureT-loop
-μ-loop out₀ tape count most at₀ next₀ state₀ position₀ out at next state position = count - position
+μ-loop longs₀ words₀ list₀ out₀ tape count most at₀ next₀ position₀ longs words list out at next position =
+    count - position
+
+lesser-size-requires : tie.Need-lesser-size-requires Inv-loop μ-loop
+lesser-size-requires c κs = search needs
 
 loop-holds : tie.Need-loop-holds Inv-loop μ-loop
-loop-holds c = (toward-here _ _ _, λ h. h, search needs, λ e. refl, λ h k. (k, refl))
+loop-holds c = (refl, refl, refl, told-start _ _ _ _ _ _ _ (let e = c .lesser-size .ensures in omega (arith, e)))
 
 same-length : tie.Need-same-length Inv-loop μ-loop
 same-length c = search needs
 
+same-length-2 : tie.Need-same-length-2 Inv-loop μ-loop
+same-length-2 c = search needs
+
+same-length-3 : tie.Need-same-length-3 Inv-loop μ-loop
+same-length-3 c = search needs
+
+same-length-4 : tie.Need-same-length-4 Inv-loop μ-loop
+same-length-4 c = let v = c .before .before .loop .inv .3 .puts in puts-same _ _ _ _ _ v
+
 returns : tie.Need-returns Inv-loop μ-loop
 returns c =
-    let L = c .before .before .loop in
-    let m = c .if1 .taken in
-    record { toward = L .inv .0; room = L .inv .1; end = λ h. absurd (omega (arith, h, m)); on = λ h k. some-told _ _ _ _ _ (L .inv .2) (L .inv .3) k m; whole = L .inv .4 }
+    let L = c .before .before in
+    let a = L .before .before .before .before .before .before .before .args in
+    record { told = told-from (a .tape .now) (a .count) (a .p) _ _ _ _ _ _ _ (L .before .lesser-size .ensures) (L .loop .inv .3); end = λ h. c .if1 .taken }
 
 take-message-requires : tie.Need-take-message-requires Inv-loop μ-loop
 take-message-requires c κs = search needs
@@ -47,28 +59,37 @@ loop-less c = search needs
 
 loop-again : tie.Need-loop-again Inv-loop μ-loop
 loop-again c =
-    let L = c .before .before .before .before .before .before .before .before .before .loop in
-    let t = c .before .before .before .before .before .before .take-message in
-    let d = c .before .before .before .tell .ensures in
-    let l = L .inv .2 in
-    let j = c .before .before .before .before .before .before .before .before .loop-test .taken in
-    let f = c .before .before .before .before .before .before .before .if1 .left in
-    let same = L .inv .0 .same in (
-      message-told _ _ _ _ _ (L .position) (L .next) _ (t .result .message) _ (L .at) _ _ _ j (t .ensures .0) (t .ensures .1) (L .inv .0) (d .0),
-      λ h. puts-room _ _ _ _ _ (d .0 .puts),
-      omega (arith, l),
-      λ e. absurd (omega (arith, e, l)),
-      λ h k. message-whole _ _ (L .position) (L .next) _ (t .result .message) _ (L .at) _ _ _ _ _ j (t .ensures .0) (t .ensures .1) (d .0) (d .1) f (omega (arith, h, same)) (L .inv .4 h k .1),
+    let T = c .before .before .before .before .before .before .before .before in
+    let M = T .before .before .before .before .before in
+    let E = M .before in
+    let I = E .before in
+    let L = I .before in
+    let v = L .loop .inv in
+    let d = T .tell .ensures in
+    let a = L .before .before .before .before .before .before .before .args in (
+      search needs,
+      search needs,
+      search needs,
+      told-next _ _ _ _ _ _ _ _ _ (v .3) _ _ _ _ (I .loop-test .taken) (omega (arith, E .if1 .left)) (M .take-message .ensures .1) (rw (M .take-message .ensures .0) at (d .puts)) (rw (M .take-message .ensures .0) at (d .few)) (rw (M .take-message .ensures .0) at (d .state)),
     )
 
-same-length-2 : tie.Need-same-length-2 Inv-loop μ-loop
-same-length-2 c = search needs
+same-length-5 : tie.Need-same-length-5 Inv-loop μ-loop
+same-length-5 c = search needs
+
+same-length-6 : tie.Need-same-length-6 Inv-loop μ-loop
+same-length-6 c = search needs
+
+same-length-7 : tie.Need-same-length-7 Inv-loop μ-loop
+same-length-7 c = search needs
+
+same-length-8 : tie.Need-same-length-8 Inv-loop μ-loop
+same-length-8 c = let v = c .before .loop .inv .3 .puts in puts-same _ _ _ _ _ v
 
 returns-2 : tie.Need-returns-2 Inv-loop μ-loop
 returns-2 c =
-    let L = c .before .loop in
-    let n = c .loop-test .left in
-    record { toward = L .inv .0; room = L .inv .1; end = λ h. n; on = λ h k. omega (arith, h, n); whole = L .inv .4 }
+    let L = c .before in
+    let a = L .before .before .before .before .before .before .before .args in
+    record { told = told-from (a .tape .now) (a .count) (a .p) _ _ _ _ _ _ _ (L .before .lesser-size .ensures) (L .loop .inv .3); end = λ h. absurd (omega (arith, h, c .loop-test .left)) }
 
 pub run-spec : {M : Type 1} → statement M
 run-spec =
@@ -76,13 +97,20 @@ run-spec =
     (tie.spec
     Inv-loop
     μ-loop
+    lesser-size-requires
     loop-holds
     same-length
+    same-length-2
+    same-length-3
+    same-length-4
     returns
     take-message-requires
     add-position
     tell-requires
     loop-less
     loop-again
-    same-length-2
+    same-length-5
+    same-length-6
+    same-length-7
+    same-length-8
     returns-2)

@@ -3,9 +3,6 @@ use borrow.Author.Needs.{needs}
 use Rattle.state.proofs.StateLaws.{pending-flag}
 use Rattle.state.proofs.is_pending.Statement.{statement}
 use Rattle.state.proofs.is_pending.Tie as tie
-use Rattle.state.proofs.is_pending.Reads as reads
-use Rattle.state.proofs.is_pending.Lts as lts
-use Rattle.state.proofs.is_set.Reads as is-set-reads
 
 shared-slice-read-is-set : tie.Need-shared-slice-read-is-set
 shared-slice-read-is-set c = search needs

@@ -1,5 +1,5 @@
 use mathlib.Core.Path.{ap, _∙_}
-use Rattle.tape.specs.View.{legIn}
+use Rattle.rules.specs.Tape.{legOf}
 use Rattle.tape.proofs.PartLaws.{part-at}
 use borrow.Author.Needs.{needs}
 use Rattle.tape.proofs.leg_at.Statement.{statement}
@@ -24,7 +24,7 @@ returns : tie.Need-returns
 returns c =
     let S = c .before .before in
     let a = S .before .before .args in
-    c .leg-of .ensures ∙ ap legIn (part-at (a .tape .now) (a .at) (S .start-of .result) (S .start-of .ensures))
+    c .leg-of .ensures ∙ ap legOf (part-at (a .tape .now) (a .at) (S .start-of .result) (S .start-of .ensures))
 
 pub leg-at-spec : {M : Type 1} → statement M
 leg-at-spec =

@@ -1,5 +1,6 @@
-use Rattle.tape.specs.View.{headerOf}
-use Rattle.tape.proofs.StrategyLaws.{opening-from}
+use mathlib.Core.Path.{ap}
+use Rattle.rules.specs.Tape.{Header}
+use Rattle.tape.proofs.StrategyLaws.{four-legs}
 use borrow.Author.Needs.{needs}
 use Rattle.tape.proofs.strategy_from.Statement.{statement}
 use Rattle.tape.proofs.strategy_from.Tie as tie
@@ -39,7 +40,11 @@ returns c =
     let L = c .before .before in
     let H = L .before .before .before .before in
     let a = H .before .before .args in
-    opening-from _ (a .t .now) (headerOf (H .header-of .result)) (a .at) (H .header-of .ensures) (L .before .before .before .leg-at .ensures) (L .before .before .leg-at2 .ensures) (L .before .leg-at3 .ensures) (L .leg-at4 .ensures)
+    record {
+      count = ap (λ (h : Header). h .legCount) (H .header-of .ensures);
+      settings = ap (λ (h : Header). h .settings) (H .header-of .ensures);
+      legs = four-legs _ (a .t .now) (a .at) (L .before .before .before .leg-at .ensures) (L .before .before .leg-at2 .ensures) (L .before .leg-at3 .ensures) (L .leg-at4 .ensures);
+    }
 
 pub strategy-from-spec : {M : Type 1} → statement M
 strategy-from-spec =

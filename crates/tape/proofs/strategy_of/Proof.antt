@@ -1,6 +1,7 @@
-use mathlib.Core.Path.{_∙_}
-use Rattle.tape.specs.View.{headerOf}
-use Rattle.tape.proofs.StrategyLaws.{tape-opening}
+use mathlib.Core.Path.{ap, subst}
+use Prim.Native.Nat.{ℕ}
+use Rattle.rules.specs.Tape.{Header}
+use Rattle.tape.specs.View.{Reads}
 use borrow.Author.Needs.{needs}
 use Rattle.tape.proofs.strategy_of.Statement.{statement}
 use Rattle.tape.proofs.strategy_of.Tie as tie
@@ -14,7 +15,8 @@ strategy-from-requires c κs = search needs
 returns : tie.Need-returns
 returns c =
     let H = c .before in
-    c .strategy-from .ensures ∙ tape-opening _ (headerOf (H .header-of .result)) (H .header-of .ensures)
+    let t = H .before .before .args .t .now in
+    subst (λ (at : ℕ). Reads at t (c .strategy-from .result)) (ap (λ (h : Header). h .legOffset) (H .header-of .ensures)) (c .strategy-from .ensures)
 
 pub strategy-of-spec : {M : Type 1} → statement M
 strategy-of-spec = tie.close (tie.spec header-of-requires strategy-from-requires returns)

@@ -4,14 +4,13 @@ use native.Mathlib.Omega.{arith}
 use lib.ListN.{length, getD, take}
 use lib.Seq.{take-all}
 use Rattle.types.proofs.TableLaws.{from-end}
-use Rattle.tape.specs.View.{bytesIn}
-use Rattle.tape.proofs.LegLaws.{bytes-more}
+use Rattle.tape.proofs.LegLaws.{bytesAt, bytes-more, bytes-are}
 use borrow.Author.Needs.{needs}
 use Rattle.tape.proofs.symbol_of.Statement.{statement}
 use Rattle.tape.proofs.symbol_of.Tie as tie
 
 abbrev Inv-loop : tie.InvT-loop
-Inv-loop p s₀ i₀ s i = (length s ≡ 21) × (i ≤ 21) × (take i s ≡ bytesIn i p)
+Inv-loop p s₀ i₀ s i = (length s ≡ 21) × (i ≤ 21) × (take i s ≡ bytesAt i p)
 
 abbrev μ-loop : tie.MeasureT-loop
 μ-loop p s₀ i₀ s i = 21 - i
@@ -42,7 +41,7 @@ loop-again c =
 returns : tie.Need-returns Inv-loop μ-loop
 returns c =
     let full : c .before .loop .i ≡ 21 = omega arith in
-    sym (take-all 21 (c .before .loop .s) (search needs)) ∙ (rw full at (c .before .loop .inv .2))
+    sym (take-all 21 (c .before .loop .s) (search needs)) ∙ (rw full at (c .before .loop .inv .2)) ∙ bytes-are 21 (c .before .before .before .args .p .now)
 
 pub symbol-of-spec : {M : Type 1} → statement M
 symbol-of-spec =

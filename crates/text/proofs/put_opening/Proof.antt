@@ -16,14 +16,11 @@ returns c = rw (c .before .before .before .if1 .taken) (whole (c .put-word .ensu
 slice-aggregate-put-one : tie.Need-slice-aggregate-put-one
 slice-aggregate-put-one c = search needs
 
-cast-put-one : tie.Need-cast-put-one
-cast-put-one c = search needs
-
 put-one-requires : tie.Need-put-one-requires
 put-one-requires c κs = search needs
 
 returns-2 : tie.Need-returns-2
-returns-2 c = rw (ne-eqb _ 0 (c .before .before .before .before .if1 .left)) (c .put-one .ensures)
+returns-2 c = rw (ne-eqb _ 0 (c .before .before .before .if1 .left)) (c .put-one .ensures)
 
 pub put-opening-spec : {M : Type 1} → statement M
 put-opening-spec =
@@ -33,6 +30,5 @@ put-opening-spec =
     put-word-requires
     returns
     slice-aggregate-put-one
-    cast-put-one
     put-one-requires
     returns-2)

@@ -1,4 +1,0 @@
-mod PassLaws
-mod BookLaws
-mod SettleLaws
-mod CloseLaws

@@ -1,9 +1,0 @@
-use Rattle.entries.proofs.StageLaws.{held-is}
-use Rattle.entries.proofs.is_held.Statement.{statement}
-use Rattle.entries.proofs.is_held.Tie as tie
-
-returns : tie.Need-returns
-returns c = held-is (c .args .stage)
-
-pub is-held-spec : {M : Type 1} → statement M
-is-held-spec = tie.close (tie.spec returns)

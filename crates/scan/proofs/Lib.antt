@@ -1,4 +1,0 @@
-pub mod StageLaws
-pub mod StoreLaws
-pub mod ScanLaws
-pub mod PlaceLaws

@@ -1,0 +1,239 @@
+-- Messages told one after another, and what is left of a tape behind them.
+use mathlib.Core.Path.{_≡_, refl, ap, sym, _∙_}
+use mathlib.Core.List.{List, [], _∷_, _++_, append-nil, append-assoc}
+use Prim.Native.Nat.{ℕ, zero, suc, _+_, _-_, _≤_, _<_, min}
+use native.Mathlib.Decide.{decLt}
+use native.Mathlib.Omega.{arith}
+use lib.ListN.{length, length-append, drop}
+use Rattle.rules.specs.Messages.{Message}
+use Rattle.rules.specs.State.{State}
+use Rattle.rules.specs.Refusals.{leastRoom}
+use Rattle.rules.specs.Step.{step}
+use Rattle.rules.specs.Run.{after}
+use Rattle.rules.specs.Tape.{messageBytes, messageOf, messagesFrom}
+use Rattle.rules.specs.Print.{Line, closing, fillLines, refusedLines, linesFrom}
+use Rattle.text.specs.Text.{lineText, linesText}
+use Rattle.tape.specs.View.{placeAfter}
+use Rattle.tape.proofs.PartLaws.{messages-next}
+use Rattle.session.specs.declared.Place.{Place}
+use Rattle.session.specs.Lines.{mostText, messageLines, messageText, toldLines, toldText, sent, placeBehind, Puts, AreTold, Runs}
+use Rattle.session.proofs.PutsLaws.{puts-none, puts-then, puts-from, lines-append}
+
+-- ---- some messages, then others
+
+pub after-append : (s : State) (ms ns : List Message) → after s (sent (ms ++ ns)) ≡ after (after s (sent ms)) (sent ns)
+unfolding after
+after-append s [] ns = refl
+after-append s (m ∷ ms) ns = after-append (step s m leastRoom .state) ms ns
+
+pub told-append : (k : ℕ) (s : State) (ms ns : List Message) → toldLines k s (ms ++ ns) ≡ toldLines k s ms ++ toldLines (k + length ms) (after s (sent ms)) ns
+unfolding after toldLines
+told-append k s [] ns = let z : k + zero ≡ k = omega arith in rw z refl
+told-append k s (m ∷ ms) ns =
+    let a : State = step s m leastRoom .state in
+    let z : k + suc (length ms) ≡ k + 1 + length ms = omega arith in
+    rw z
+    (ap (λ (x : List Line). messageLines k s m ++ x) (told-append (k + 1) a ms ns)
+    ∙ sym (append-assoc (messageLines k s m) (toldLines (k + 1) a ms) (toldLines (k + 1 + length ms) (after a (sent ms)) ns)))
+
+pub lines-told : (k : ℕ) (s : State) (ms ns : List Message) → linesFrom k s (ms ++ ns) ≡ toldLines k s ms ++ linesFrom (k + length ms) (after s (sent ms)) ns
+unfolding after toldLines linesFrom
+lines-told k s [] ns = let z : k + zero ≡ k = omega arith in rw z refl
+lines-told k s (m ∷ ms) ns =
+    let a = step s m leastRoom in
+    let z : k + suc (length ms) ≡ k + 1 + length ms = omega arith in
+    rw z
+    (sym (append-assoc (fillLines (a .fills)) (refusedLines k (a .outcome)) (linesFrom (k + 1) (a .state) (ms ++ ns)))
+    ∙ ap (λ (x : List Line). messageLines k s m ++ x) (lines-told (k + 1) (a .state) ms ns)
+    ∙ sym (append-assoc (messageLines k s m) (toldLines (k + 1) (a .state) ms) (linesFrom (k + 1 + length ms) (after (a .state) (sent ms)) ns)))
+
+told-one : (k : ℕ) (s : State) (m : Message) → toldLines k s (m ∷ []) ≡ messageLines k s m
+unfolding toldLines
+told-one k s m = append-nil (messageLines k s m)
+
+-- ---- the messages of a tape
+
+messages-length : (n : ℕ) (p : List ℕ) → length (messagesFrom n p) ≡ n
+messages-length zero p = refl
+messages-length (suc n) p = ap suc (messages-length n (drop messageBytes p))
+
+messages-append : (t : List ℕ) (at i j : ℕ) → messagesFrom (i + j) (drop at t) ≡ messagesFrom i (drop at t) ++ messagesFrom j (drop (placeBehind t i at) t)
+messages-append t at zero j = let z : zero + j ≡ j = omega arith in rw z refl
+messages-append t at (suc i) j =
+    let z : suc i + j ≡ suc (i + j) = omega arith in
+    let rest : List Message = messagesFrom j (drop (placeBehind t i (placeAfter t at)) t) in
+    rw z
+    (messages-next t at (i + j)
+    ∙ ap (λ (x : List Message). messageOf (drop at t) ∷ x) (messages-append t (placeAfter t at) i j)
+    ∙ sym (ap (λ (x : List Message). x ++ rest) (messages-next t at i)))
+
+behind-next : (t : List ℕ) (n at : ℕ) → placeBehind t (suc n) at ≡ placeAfter t (placeBehind t n at)
+behind-next t zero at = refl
+behind-next t (suc n) at = behind-next t n (placeAfter t at)
+
+-- ---- one message more
+
+module _ (tape : List ℕ) (n : ℕ) (p : Place) (most : ℕ) (s : State) (lent : List ℕ) where
+  abbrev first : ℕ → List Message
+  first k = messagesFrom k (drop (p .next) tape)
+
+  abbrev text : ℕ → List ℕ
+  text k = toldText (p .position + 1) s (first k)
+
+  -- none yet
+  pub told-start : (place : ℕ) → place ≡ min (p .at) (length lent) → AreTold tape n p most s lent s (record { position = p .position; next = p .next; at = place }) lent
+  unfolding after toldLines
+  told-start place e =
+      let z : p .position - p .position ≡ 0 = omega arith in
+      record {
+        puts = rw z (puts-none lent (p .at) place e);
+        state = rw z refl;
+        next = rw z refl;
+        inside = (omega arith, omega arith);
+        before = λ j h. absurd (omega (arith, h));
+        whole = λ h k. rw z (omega (arith, k));
+      }
+
+  module _ (s′ : State) (r : Place) (out : List ℕ) (t : AreTold tape n p most s lent s′ r out) where
+    abbrev k : ℕ
+    k = r .position - p .position
+
+    abbrev m : Message
+    m = messageOf (drop (r .next) tape)
+
+    counted : r .position + 1 - p .position ≡ k + 1
+    counted = let h = t .inside .0 in omega (arith, h)
+
+    one-first : first (k + 1) ≡ first k ++ (m ∷ [])
+    one-first = messages-append tape (p .next) k 1 ∙ ap (λ (at : ℕ). first k ++ (messageOf (drop at tape) ∷ [])) (sym (t .next))
+
+    one-text : text (k + 1) ≡ text k ++ messageText (r .position + 1) s′ m
+    one-text =
+        let h = t .inside .0 in
+        let l = messages-length k (drop (p .next) tape) in
+        let z : p .position + 1 + length (first k) ≡ r .position + 1 = omega (arith, h, l) in
+        ap (toldText (p .position + 1) s) one-first
+        ∙ ap linesText (told-append (p .position + 1) s (first k) (m ∷ []))
+        ∙ lines-append (toldLines (p .position + 1) s (first k)) (toldLines (p .position + 1 + length (first k)) (after s (sent (first k))) (m ∷ []))
+        ∙ (λ i. text k ++ linesText (toldLines (z i) (sym (t .state) i) (m ∷ [])))
+        ∙ ap (λ (ls : List Line). text k ++ linesText ls) (told-one (r .position + 1) s′ m)
+
+    one-state : step s′ m leastRoom .state ≡ after s (sent (first (k + 1)))
+    unfolding after
+    one-state =
+        ap (λ (x : State). step x m leastRoom .state) (t .state)
+        ∙ sym (after-append s (first k) (m ∷ []))
+        ∙ ap (λ (ms : List Message). after s (sent ms)) (sym one-first)
+
+    one-next : placeAfter tape (r .next) ≡ placeBehind tape (k + 1) (p .next)
+    one-next =
+        let z : k + 1 ≡ suc k = omega arith in
+        ap (placeAfter tape) (t .next) ∙ sym (behind-next tape k (p .next)) ∙ ap (λ (i : ℕ). placeBehind tape i (p .next)) (sym z)
+
+    one-before : r .at ≤ most → (j : ℕ) → j < k + 1 → min (p .at + length (text j)) (length lent) ≤ most
+    one-before h j l =
+        elim (decLt j k) [
+          | yes y ↦ t .before j y
+          | no y ↦ let z : j ≡ k = omega (arith, l, y) in let e = t .puts .place in rw z (omega (arith, e, h))
+        ]
+
+    pub told-next : (next place : ℕ) (new : List ℕ) (s″ : State) → r .position < n → r .at ≤ most → next ≡ placeAfter tape (r .next) → Puts (messageText (r .position + 1) s′ m) out (r .at) place new
+        → length (messageText (r .position + 1) s′ m) ≤ mostText → s″ ≡ step s′ m leastRoom .state → AreTold tape n p most s lent s″ (record { position = r .position + 1; next = next; at = place }) new
+    told-next next place new s″ h a e d f g =
+        let i = t .inside .0 in
+        let c : length (text (k + 1)) ≡ length (text k) + length (messageText (r .position + 1) s′ m) = ap length one-text ∙ length-append (text k) (messageText (r .position + 1) s′ m) in
+        let q = t .puts .place in
+        record {
+          puts = rw (counted, one-text) (puts-then (text k) (messageText (r .position + 1) s′ m) lent (p .at) out (r .at) place new (t .puts) d);
+          state = rw counted (g ∙ one-state);
+          next = rw counted (e ∙ one-next);
+          inside = (omega (arith, i), omega (arith, h));
+          before = rw counted (one-before a);
+          whole = λ x y. rw counted (omega (arith, x, a, q, c, f));
+        }
+
+-- from a place of the output past its end, or its end
+pub told-from : (tape : List ℕ) (n : ℕ) (p : Place) (most : ℕ) (s : State) (lent : List ℕ) (s′ : State) (r : Place) (out : List ℕ) (place : ℕ) → place ≡ min (p .at) (length lent)
+    → AreTold tape n (record { position = p .position; next = p .next; at = place }) most s lent s′ r out → AreTold tape n p most s lent s′ r out
+told-from tape n p most s lent s′ r out place e t =
+    record {
+      puts = puts-from _ lent (p .at) place (r .at) out e (t .puts);
+      state = t .state;
+      next = t .next;
+      inside = t .inside;
+      before = λ j h. let b = t .before j h in omega (arith, b, e);
+      whole = λ x y. let b = t .whole x (omega (arith, x, y, e)) in omega (arith, b, x, y, e);
+    }
+
+-- ---- what is left
+
+-- the bytes that are left behind i messages of n, from a place of the tape and a state on
+abbrev pub leftText : List ℕ → ℕ → ℕ → ℕ → State → List ℕ
+leftText tape n i at s = linesText (linesFrom (i + 1) s (messagesFrom (n - i) (drop at tape)))
+
+-- before the first message
+pub left-all : (tape : List ℕ) (n at : ℕ) (s : State) → leftText tape n 0 at s ≡ linesText (linesFrom 1 s (messagesFrom n (drop at tape)))
+left-all tape n at s = let z : n - 0 ≡ n = omega arith in rw z refl
+
+-- behind some
+pub left-told : (tape : List ℕ) (n : ℕ) (p : Place) (most : ℕ) (s : State) (lent : List ℕ) (s′ : State) (r : Place) (out : List ℕ) → AreTold tape n p most s lent s′ r out
+    → leftText tape n (p .position) (p .next) s ≡ toldText (p .position + 1) s (messagesFrom (r .position - p .position) (drop (p .next) tape)) ++ leftText tape n (r .position) (r .next) s′
+left-told tape n p most s lent s′ r out t =
+    let k : ℕ = r .position - p .position in
+    let a = t .inside .0 in
+    let b = t .inside .1 in
+    let ms : List Message = messagesFrom k (drop (p .next) tape) in
+    let ns : List Message = messagesFrom (n - r .position) (drop (placeBehind tape k (p .next)) tape) in
+    let z : n - p .position ≡ k + (n - r .position) = omega (arith, a, b) in
+    let l = messages-length k (drop (p .next) tape) in
+    let y : p .position + 1 + length ms ≡ r .position + 1 = omega (arith, a, l) in
+    rw z
+    (ap (λ (xs : List Message). linesText (linesFrom (p .position + 1) s xs)) (messages-append tape (p .next) k (n - r .position))
+    ∙ ap linesText (lines-told (p .position + 1) s ms ns)
+    ∙ lines-append (toldLines (p .position + 1) s ms) (linesFrom (p .position + 1 + length ms) (after s (sent ms)) ns)
+    ∙ (λ i. toldText (p .position + 1) s ms ++ linesText (linesFrom (y i) (sym (t .state) i) (messagesFrom (n - r .position) (drop (sym (t .next) i) tape)))))
+
+-- behind the last
+pub left-last : (tape : List ℕ) (n i at : ℕ) (s : State) → n ≤ i → leftText tape n i at s ≡ lineText (closing s)
+unfolding linesFrom
+left-last tape n i at s h = let z : n - i ≡ 0 = omega arith in rw z (append-nil (lineText (closing s)))
+
+-- ---- what a run does
+
+module _ (tape : List ℕ) (n : ℕ) (p : Place) (most : ℕ) (s : State) (lent : List ℕ) (s′ : State) (r : Place) (out : List ℕ) (t : Runs tape n p most s lent s′ r out) where
+  -- it tells a message, where there is one and the output is not written past the place
+  pub some-told : p .position < n → p .at ≤ most → p .position < r .position
+  unfolding toldLines
+  some-told h l =
+      elim (decLt (p .position) (r .position)) [
+        | yes y ↦ y
+        | no y ↦
+            let z : r .position - p .position ≡ 0 = omega (arith, y) in
+            let e : Puts [] lent (p .at) (r .at) out = rw z at (t .told .puts) in
+            let x = t .end (omega (arith, h, y)) in
+            let f = e .place in
+            absurd (omega (arith, x, f, l))
+      ]
+
+  -- no byte is left out where the output has room for one message more
+  pub none-lost : most + mostText ≤ length lent → p .at ≤ most + mostText
+      → (r .at ≤ most + mostText) × (r .at + length (leftText tape n (r .position) (r .next) s′) ≡ p .at + length (leftText tape n (p .position) (p .next) s))
+  none-lost h l =
+      let w = t .told .whole h l in
+      let e = t .told .puts .place in
+      let a : List ℕ = toldText (p .position + 1) s (messagesFrom (r .position - p .position) (drop (p .next) tape)) in
+      let b : List ℕ = leftText tape n (r .position) (r .next) s′ in
+      let k : length (leftText tape n (p .position) (p .next) s) ≡ length a + length b = ap length (left-told tape n p most s lent s′ r out (t .told)) ∙ length-append a b in
+      (omega (arith, w, e), omega (arith, w, e, h, k))
+
+  -- in an output that ends before the place every message is told, and the last line may follow
+  pub all-told : length lent ≤ most → (e : ℕ) (last : List ℕ) → Puts (lineText (closing s′)) out (r .at) e last → Puts (leftText tape n (p .position) (p .next) s) lent (p .at) e last
+  all-told h e last q =
+      let f = t .told .puts .place in
+      let k : n ≤ r .position =
+      elim (decLt (r .position) n) [
+        | yes y ↦ let x = t .end y in absurd (omega (arith, x, f, h))
+        | no y ↦ omega (arith, y)
+      ]
+      in
+      rw (left-told tape n p most s lent s′ r out (t .told), left-last tape n (r .position) (r .next) s′ k) (puts-then _ (lineText (closing s′)) lent (p .at) out (r .at) e last (t .told .puts) q)

@@ -1,0 +1,70 @@
+use mathlib.Core.Path.{_≡_}
+use Prim.Native.Nat.{_-_, _≤_}
+use native.Mathlib.Omega.{arith}
+use Rattle.session.proofs.PutsLaws.{puts-same}
+use Rattle.session.proofs.LineLaws.{FillsPut, fills-start, fills-next}
+use borrow.Author.Needs.{needs}
+use Rattle.session.proofs.put_fills.Statement.{statement}
+use Rattle.session.proofs.put_fills.Tie as tie
+
+abbrev Inv-loop : tie.InvT-loop
+Inv-loop list n out₀ from at₀ i₀ out at i = (i ≤ n) × FillsPut list i out₀ from at out
+
+abbrev μ-loop : tie.MeasureT-loop
+μ-loop list n out₀ from at₀ i₀ out at i = n - i
+
+lesser-size-requires : tie.Need-lesser-size-requires Inv-loop μ-loop
+lesser-size-requires c κs = search needs
+
+loop-holds : tie.Need-loop-holds Inv-loop μ-loop
+loop-holds c = (omega arith, fills-start _ _ _ _ (c .lesser-size .ensures))
+
+fill-at-requires : tie.Need-fill-at-requires Inv-loop μ-loop
+fill-at-requires c κs = search needs
+
+put-fill-requires : tie.Need-put-fill-requires Inv-loop μ-loop
+put-fill-requires c κs = search needs
+
+add-i : tie.Need-add-i Inv-loop μ-loop
+add-i c = search needs
+
+loop-less : tie.Need-loop-less Inv-loop μ-loop
+loop-less c = search needs
+
+loop-again : tie.Need-loop-again Inv-loop μ-loop
+loop-again c =
+    let P = c .before .before in
+    let F = P .before in
+    let I = F .before .before in
+    let L = I .before in
+    let a = L .before .before .before .before .args in
+    let p = L .before .before .before .before .pre in
+    let t = I .loop-test .taken in
+    (omega (arith, t), fills-next (a .list .now) (L .loop .i) _ _ _ _ _ _ _ (F .fill-at .ensures) (omega (arith, t, p)) (L .loop .inv .1) (P .put-fill .ensures))
+
+same-length : tie.Need-same-length Inv-loop μ-loop
+same-length c = let v = c .before .loop .inv .1 .puts in puts-same _ _ _ _ _ v
+
+returns : tie.Need-returns Inv-loop μ-loop
+returns c =
+    let L = c .before .loop in
+    let a = c .before .before .before .before .before .args in
+    let e : L .i ≡ a .n = omega (arith, L .inv .0, c .loop-test .left) in
+    let v = rw e at (L .inv .1) in
+    (v .puts, v .few)
+
+pub put-fills-spec : {M : Type 1} → statement M
+put-fills-spec =
+    tie.close
+    (tie.spec
+    Inv-loop
+    μ-loop
+    lesser-size-requires
+    loop-holds
+    fill-at-requires
+    put-fill-requires
+    add-i
+    loop-less
+    loop-again
+    same-length
+    returns)

@@ -1,2 +1,0 @@
-pub mod LegLaws
-pub mod OpeningLaws

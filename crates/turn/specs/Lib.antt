@@ -1,3 +1,0 @@
-pub mod Slots
-pub mod Open
-pub mod Record

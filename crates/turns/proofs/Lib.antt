@@ -1,7 +1,0 @@
-pub mod NextLaws
-pub mod FillLaws
-pub mod SlotLaws
-pub mod GrantLaws
-pub mod ExecuteLaws
-pub mod GoesLaws
-pub mod ServeLaws
