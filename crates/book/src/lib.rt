@@ -307,22 +307,12 @@ pub fn in_front(words: &[u32], buy: bool, price: u32) -> bool
     !seen
 }
 
-// Price p is beyond q by more than n: above it for a buyer, below it for a seller.
-fn is_beyond(buy: bool, n: u32, p: u32, q: u32) -> bool
-    ensures { λ r. ⌜ r ≡ beyond buy n p q ⌝ }
-{
-    if buy {
-        (q as u64) + (n as u64) < (p as u64)
-    } else {
-        (p as u64) + (n as u64) < (q as u64)
-    }
-}
-
 // A live order on the other side that the limit reaches or misses by at most the distance.
 fn is_near_live(stage: u32, side: u32, p: u32, buy: bool, price: u32, distance: u32) -> bool
     ensures { λ r. ⌜ r ≡ (isLive (stageOf stage) && not (sameSide buy (flag side)) && not (beyond (not buy) distance price p)) ⌝ }
 {
-    is_live(stage) & !same_side(buy, state::is_set(side)) & !is_beyond(!buy, distance, price, p)
+    let far = price::is_beyond(!buy, distance as u64, price as u64, p as u64);
+    is_live(stage) & !same_side(buy, state::is_set(side)) & !far
 }
 
 // "a best contra price (.. live order) exists that the limit reaches or misses by at most the class distance".

@@ -22,7 +22,7 @@ use Rattle.state.specs.Layout.{isSized}
 use Rattle.state.specs.View.{stateOf}
 use Rattle.opening.specs.Opens.{openedBy, Opens}
 use Rattle.engine.specs.Steps.{recordsIn, placesIn}
-use Rattle.fills.specs.Fills.{heldRank, heldContra, heldFill, written}
+use Rattle.fills.specs.Fills.{storedRank, storedContra, storedFill, written}
 use Rattle.demand.specs.Engine.{Stepped, Applied, Taken, byStep, byApply, longsAfter, wordsAfter, sentOf, fillCount, toldBy, Run, over, then, sents, told, Demand3}
 
 -- ---- the fill count of an outcome is the number of its records
@@ -53,26 +53,26 @@ step-count s m room = by (eqb (refusal s m room) 0)
 
 -- ---- the records of a list of structs
 
-shown-rank : (k : U.Rank) → rankOf (heldRank k) ≡ k
+shown-rank : (k : U.Rank) → rankOf (storedRank k) ≡ k
 shown-rank U.L = refl
 shown-rank U.C = refl
 shown-rank U.N = refl
 shown-rank U.T = refl
 shown-rank U.R = refl
 
-shown-contra : (c : U.Contra) → contraOf (heldContra c) ≡ c
+shown-contra : (c : U.Contra) → contraOf (storedContra c) ≡ c
 shown-contra U.legs = refl
 shown-contra (U.entry i) = refl
 
-shown-fill : (f : U.Fill) → fillOf (heldFill f) ≡ f
+shown-fill : (f : U.Fill) → fillOf (storedFill f) ≡ f
 shown-fill f =
     ap₂ (λ (k : U.Rank) (c : U.Contra). record { number = f .number; order = f .order; rank = k; contra = c; price = f .price; units = f .units }) (shown-rank (f .rank)) (shown-contra (f .contra))
 
 -- as many records as there are, from the start of a list that they were written into
-first-written : (ys : List Fill) (fs : List U.Fill) → map fillOf (take (length fs) (written ys (map heldFill fs))) ≡ fs
-first-written ys fs = first fs (drop (length (map heldFill fs)) ys)
+first-written : (ys : List Fill) (fs : List U.Fill) → map fillOf (take (length fs) (written ys (map storedFill fs))) ≡ fs
+first-written ys fs = first fs (drop (length (map storedFill fs)) ys)
   where
-    first : (fs : List U.Fill) (ys : List Fill) → map fillOf (take (length fs) (map heldFill fs ++ ys)) ≡ fs
+    first : (fs : List U.Fill) (ys : List Fill) → map fillOf (take (length fs) (map storedFill fs ++ ys)) ≡ fs
     first [] ys = refl
     first (f ∷ fs) ys = ap₂ (λ (g : U.Fill) (gs : List U.Fill). g ∷ gs) (shown-fill f) (first fs ys)
 

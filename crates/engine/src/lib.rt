@@ -23,6 +23,7 @@ use types::Body;
 use types::Cause;
 use types::Message;
 use types::Outcome;
+use types::Refusal;
 
 mod route;
 
@@ -141,7 +142,7 @@ fn refusal(longs: &[u64], words: &[u32], list: &[u64], m: Message, room: usize) 
         let places = number::lesser_size(room, list.len() / Record::NUMBERS);
         return refusals::refusal(longs, words, m, places);
     }
-    10
+    Refusal::SHORT_LIST
 }
 
 // One message with a fill list of so many places: refused, or accepted.

@@ -1,4 +1,4 @@
--- The records of a turn, place by place: those of the places before b, and the next.
+-- The records of a turn, tier by tier: those of the tiers before b, and the next.
 use mathlib.Core.Path.{_≡_, refl, ap, ap₂, sym, _∙_}
 use mathlib.Core.Bool.{Bool, true, false, _&&_}
 use mathlib.Core.Logic.{⊎-elim}
@@ -10,18 +10,18 @@ use borrow.Author.Tests.{eq-eqb, ne-eqb, lt-ltb, le-ltb}
 use lib.Dec.{eqb, ltb}
 use lib.ListN.{length}
 use Rattle.rules.specs.Basics.{pick, zeros}
-use Rattle.rules.specs.Turn.{Offer, place, places, sizes, Fill, fillOf, fillsAt, fillsOf}
+use Rattle.rules.specs.Turn.{Offer, tier, tiers, sizes, Fill, fillOf, fillsAt, fillsOf}
 use Rattle.rules.proofs.TestLaws.{and-no, pick-none}
-use Rattle.rules.proofs.TurnLaws.{Rising, Among, among-from, places-rising, places-cover}
+use Rattle.rules.proofs.TurnLaws.{Rising, Among, among-from, tiers-rising, tiers-cover}
 use Rattle.execution.proofs.NextLaws.{Gapped}
 
--- the grants at places before b
+-- the grants at tiers before b
 abbrev pub cut : ℕ → List Offer → List ℕ → List ℕ
 cut b [] gs = []
 cut b (e ∷ es) [] = []
-cut b (e ∷ es) (g ∷ gs) = pick (ltb (place e) b) g 0 ∷ cut b es gs
+cut b (e ∷ es) (g ∷ gs) = pick (ltb (tier e) b) g 0 ∷ cut b es gs
 
--- the places before b
+-- the tiers before b
 abbrev pub below : ℕ → List ℕ → List ℕ
 below b [] = []
 below b (k ∷ ks) = pick (ltb k b) (k ∷ below b ks) (below b ks)
@@ -30,52 +30,52 @@ module _ (u v : ℕ) where
   -- ---- one slot more
 
   pub fills-last : (k : ℕ) (es : List Offer) (gs : List ℕ) (e : Offer) (g : ℕ) → length es ≡ length gs
-      → fillsAt u v k (es ++ (e ∷ [])) (gs ++ (g ∷ [])) ≡ fillsAt u v k es gs ++ pick (eqb (place e) k && ltb 0 g) (fillOf u v e g ∷ []) []
+      → fillsAt u v k (es ++ (e ∷ [])) (gs ++ (g ∷ [])) ≡ fillsAt u v k es gs ++ pick (eqb (tier e) k && ltb 0 g) (fillOf u v e g ∷ []) []
   fills-last k [] [] e g h = refl
   fills-last k [] (x ∷ gs) e g h = absurd (omega arith)
   fills-last k (d ∷ es) [] e g h = absurd (omega arith)
-  fills-last k (d ∷ es) (x ∷ gs) e g h = go (eqb (place d) k && ltb 0 x) (fills-last k es gs e g (omega arith))
+  fills-last k (d ∷ es) (x ∷ gs) e g h = go (eqb (tier d) k && ltb 0 x) (fills-last k es gs e g (omega arith))
     where
-      go : (b : Bool) → fillsAt u v k (es ++ (e ∷ [])) (gs ++ (g ∷ [])) ≡ fillsAt u v k es gs ++ pick (eqb (place e) k && ltb 0 g) (fillOf u v e g ∷ []) []
+      go : (b : Bool) → fillsAt u v k (es ++ (e ∷ [])) (gs ++ (g ∷ [])) ≡ fillsAt u v k es gs ++ pick (eqb (tier e) k && ltb 0 g) (fillOf u v e g ∷ []) []
           → pick b (fillOf u v d x ∷ fillsAt u v k (es ++ (e ∷ [])) (gs ++ (g ∷ []))) (fillsAt u v k (es ++ (e ∷ [])) (gs ++ (g ∷ [])))
-          ≡ pick b (fillOf u v d x ∷ fillsAt u v k es gs) (fillsAt u v k es gs) ++ pick (eqb (place e) k && ltb 0 g) (fillOf u v e g ∷ []) []
+          ≡ pick b (fillOf u v d x ∷ fillsAt u v k es gs) (fillsAt u v k es gs) ++ pick (eqb (tier e) k && ltb 0 g) (fillOf u v e g ∷ []) []
       go true q = ap (λ (l : List Fill). fillOf u v d x ∷ l) q
       go false q = q
 
-  -- ---- at one place
+  -- ---- at one tier
 
-  -- the grants of later places are no part of it
+  -- the grants of later tiers are no part of it
   pub fills-cut : (k b : ℕ) (es : List Offer) (gs : List ℕ) → k < b → fillsAt u v k es (cut b es gs) ≡ fillsAt u v k es gs
   fills-cut k b [] gs h = refl
   fills-cut k b (e ∷ es) [] h = refl
   fills-cut k b (e ∷ es) (g ∷ gs) h =
-      elim (ℕ-discrete (place e) k) [
-        | yes q ↦ rw (lt-ltb (place e) b (omega arith), fills-cut k b es gs h)
-        | no q ↦ rw (ne-eqb (place e) k q) (fills-cut k b es gs h)
+      elim (ℕ-discrete (tier e) k) [
+        | yes q ↦ rw (lt-ltb (tier e) b (omega arith), fills-cut k b es gs h)
+        | no q ↦ rw (ne-eqb (tier e) k q) (fills-cut k b es gs h)
       ]
 
   gap-fills : (b k j : ℕ) (es : List Offer) (gs : List ℕ) → Gapped b k es gs → b ≤ j → j < k → fillsAt u v j es gs ≡ []
   gap-fills b k j [] gs g h l = refl
   gap-fills b k j (e ∷ es) [] g h l = refl
   gap-fills b k j (e ∷ es) (x ∷ gs) g h l =
-      elim (ℕ-discrete (place e) j) [
+      elim (ℕ-discrete (tier e) j) [
         | yes q ↦ (
             let z : x ≡ 0 = g .0 (omega arith) (omega arith) in
-            rw (eq-eqb (place e) j q, le-ltb 0 x (omega arith)) (gap-fills b k j es gs (g .1) h l)
+            rw (eq-eqb (tier e) j q, le-ltb 0 x (omega arith)) (gap-fills b k j es gs (g .1) h l)
             )
-        | no q ↦ rw (ne-eqb (place e) j q) (gap-fills b k j es gs (g .1) h l)
+        | no q ↦ rw (ne-eqb (tier e) j q) (gap-fills b k j es gs (g .1) h l)
       ]
 
   late-fills : (b j : ℕ) (es : List Offer) (gs : List ℕ) → b ≤ j → fillsAt u v j es (cut b es gs) ≡ []
   late-fills b j [] gs h = refl
   late-fills b j (e ∷ es) [] h = refl
   late-fills b j (e ∷ es) (g ∷ gs) h =
-      elim (ℕ-discrete (place e) j) [
-        | yes q ↦ rw (eq-eqb (place e) j q, le-ltb (place e) b (omega arith)) (late-fills b j es gs h)
-        | no q ↦ rw (ne-eqb (place e) j q) (late-fills b j es gs h)
+      elim (ℕ-discrete (tier e) j) [
+        | yes q ↦ rw (eq-eqb (tier e) j q, le-ltb (tier e) b (omega arith)) (late-fills b j es gs h)
+        | no q ↦ rw (ne-eqb (tier e) j q) (late-fills b j es gs h)
       ]
 
-  -- ---- the places before b
+  -- ---- the tiers before b
 
   below-none : (b c : ℕ) (ks : List ℕ) → b ≤ c → Rising c ks → below b ks ≡ []
   below-none b c [] h r = refl
@@ -84,7 +84,7 @@ module _ (u v : ℕ) where
   pub fills-start : (ks : List ℕ) (es : List Offer) (gs : List ℕ) → Rising 0 ks → fillsOf u v (below 0 ks) es gs ≡ []
   fills-start ks es gs r = ap (λ (l : List ℕ). fillsOf u v l es gs) (below-none 0 0 ks (omega arith) r)
 
-  -- the next place k
+  -- the next tier k
   pub fills-next : (b k c : ℕ) (ks : List ℕ) (es : List Offer) (gs : List ℕ) → b ≤ k → Rising c ks → Among k ks → Gapped b k es gs
       → fillsOf u v (below b ks) es gs ++ fillsAt u v k es gs ≡ fillsOf u v (below (k + 1) ks) es gs
   fills-next b k c [] es gs h r a g = absurd a
@@ -122,7 +122,7 @@ module _ (u v : ℕ) where
 
   none-fills : (k : ℕ) (es : List Offer) → fillsAt u v k es (zeros (sizes es)) ≡ []
   none-fills k [] = refl
-  none-fills k (e ∷ es) = rw (and-no (eqb (place e) k) false refl) (none-fills k es)
+  none-fills k (e ∷ es) = rw (and-no (eqb (tier e) k) false refl) (none-fills k es)
 
   gap-none : (b k : ℕ) (es : List Offer) → Gapped b k es (zeros (sizes es))
   gap-none b k [] = tt
@@ -130,14 +130,14 @@ module _ (u v : ℕ) where
 
   cut-zeros : (b : ℕ) (es : List Offer) → cut b es (zeros (sizes es)) ≡ zeros (sizes es)
   cut-zeros b [] = refl
-  cut-zeros b (e ∷ es) = ap₂ (λ (x : ℕ) (l : List ℕ). x ∷ l) (pick-none (ltb (place e) b)) (cut-zeros b es)
+  cut-zeros b (e ∷ es) = ap₂ (λ (x : ℕ) (l : List ℕ). x ∷ l) (pick-none (ltb (tier e) b)) (cut-zeros b es)
 
-  pub fills-first : (e : Offer) (es : List Offer) (g : ℕ) → fillsOf u v (places (e ∷ es)) (e ∷ es) (g ∷ zeros (sizes es)) ≡ pick (ltb 0 g) (fillOf u v e g ∷ []) []
+  pub fills-first : (e : Offer) (es : List Offer) (g : ℕ) → fillsOf u v (tiers (e ∷ es)) (e ∷ es) (g ∷ zeros (sizes es)) ≡ pick (ltb 0 g) (fillOf u v e g ∷ []) []
   fills-first e es g =
-      let k : ℕ = place e in
+      let k : ℕ = tier e in
       let gs : List ℕ = g ∷ zeros (sizes es) in
-      let a : Among k (places (e ∷ es)) = places-cover (e ∷ es) .0 (omega arith) in
+      let a : Among k (tiers (e ∷ es)) = tiers-cover (e ∷ es) .0 (omega arith) in
       let c : cut (k + 1) (e ∷ es) gs ≡ gs = rw (lt-ltb k (k + 1) (omega arith), cut-zeros (k + 1) es) in
-      sym (fills-end (k + 1) (places (e ∷ es)) (e ∷ es) gs c)
-      ∙ sym (fills-next 0 k 0 (places (e ∷ es)) (e ∷ es) gs (omega arith) (places-rising (e ∷ es)) a (λ i j. absurd (omega arith), gap-none 0 k es))
-      ∙ rw (fills-start (places (e ∷ es)) (e ∷ es) gs (places-rising (e ∷ es)), eq-eqb k k refl, none-fills k es)
+      sym (fills-end (k + 1) (tiers (e ∷ es)) (e ∷ es) gs c)
+      ∙ sym (fills-next 0 k 0 (tiers (e ∷ es)) (e ∷ es) gs (omega arith) (tiers-rising (e ∷ es)) a (λ i j. absurd (omega arith), gap-none 0 k es))
+      ∙ rw (fills-start (tiers (e ∷ es)) (e ∷ es) gs (tiers-rising (e ∷ es)), eq-eqb k k refl, none-fills k es)

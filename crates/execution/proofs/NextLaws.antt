@@ -1,4 +1,4 @@
--- The nearest place from b on that has units, and the units there: nobody before it has any, and it is one of the offers' places.
+-- The nearest tier from b on that has units, and the units there: nobody before it has any, and it is one of the offers' tiers.
 use mathlib.Core.Path.{_≡_, refl, sym, _∙_}
 use mathlib.Core.Logic.{_⊎_, inl, inr, ⊎-elim}
 use mathlib.Core.List.{List, [], _∷_}
@@ -8,9 +8,9 @@ use native.Mathlib.Omega.{arith}
 use borrow.Author.Tests.{eq-eqb, ne-eqb, lt-ltb, le-ltb, le-leb, lt-leb}
 use lib.Dec.{eqb}
 use Rattle.rules.specs.Basics.{sum, pick}
-use Rattle.rules.specs.Turn.{Offer, place, places}
+use Rattle.rules.specs.Turn.{Offer, tier, tiers}
 use Rattle.rules.proofs.TestLaws.{pick-none}
-use Rattle.rules.proofs.TurnLaws.{Among, Covers, places-cover}
+use Rattle.rules.proofs.TurnLaws.{Among, Covers, tiers-cover}
 use Rattle.execution.specs.Walk.{spots, nearer, gathered, leastFrom, totalFrom, sizesOf}
 
 -- ---- one slot
@@ -42,7 +42,7 @@ near-none b m t p h =
           ]
     ]
 
--- ---- the least place
+-- ---- the least tier
 
 least-or : (b m : ℕ) (ps us : List ℕ) → (leastFrom b m ps us ≡ m) ⊎ (b ≤ leastFrom b m ps us)
 unfolding leastFrom
@@ -69,7 +69,7 @@ least-most b m (p ∷ ps) (u ∷ us) =
 
 -- ---- the units there
 
--- what a slot adds to those at place k, which is not beyond the nearest
+-- what a slot adds to those at tier k, which is not beyond the nearest
 total-one : (b m t p u k : ℕ) → b ≤ k → k ≤ nearer b m p u → pick (eqb k (nearer b m p u)) (gathered b m t p u) 0 ≡ pick (eqb k m) t 0 + pick (eqb p k) u 0
 total-one b m t p u k h l =
     elim (decLt p b) [
@@ -121,23 +121,23 @@ total-is b m k ps us h e = rw e (total-from b m 0 ps us h ∙ rw (pick-none (eqb
 abbrev pub Gapped : ℕ → ℕ → List Offer → List ℕ → Type 0
 Gapped b k [] us = Unit {0}
 Gapped b k (e ∷ es) [] = Unit {0}
-Gapped b k (e ∷ es) (u ∷ us) = (b ≤ place e → place e < k → u ≡ 0) × Gapped b k es us
+Gapped b k (e ∷ es) (u ∷ us) = (b ≤ tier e → tier e < k → u ≡ 0) × Gapped b k es us
 
 pub least-gap : (b m k : ℕ) (es : List Offer) (us : List ℕ) → k ≡ leastFrom b m (spots es) us → Gapped b k es us
 unfolding leastFrom spots
 least-gap b m k [] us h = tt
 least-gap b m k (e ∷ es) [] h = tt
 least-gap b m k (e ∷ es) (u ∷ us) h =
-    let l = least-most b (nearer b m (place e) u) (spots es) us in (
-      ⊎-elim (λ w i j. absurd (omega (arith, l, h, w .0))) (λ w i j. w .1 i (omega (arith, l, h, w .0))) (near b m (place e) u),
-      least-gap b (nearer b m (place e) u) k es us h,
+    let l = least-most b (nearer b m (tier e) u) (spots es) us in (
+      ⊎-elim (λ w i j. absurd (omega (arith, l, h, w .0))) (λ w i j. w .1 i (omega (arith, l, h, w .0))) (near b m (tier e) u),
+      least-gap b (nearer b m (tier e) u) k es us h,
     )
 
--- ---- one of the offers' places
+-- ---- one of the offers' tiers
 
 abbrev Stands : ℕ → List Offer → Type 0
 Stands k [] = ⊥
-Stands k (e ∷ es) = (place e ≡ k) ⊎ Stands k es
+Stands k (e ∷ es) = (tier e ≡ k) ⊎ Stands k es
 
 least-stands : (b m k : ℕ) (es : List Offer) (us : List ℕ) → k ≡ leastFrom b m (spots es) us → (k ≡ m) ⊎ Stands k es
 unfolding leastFrom spots
@@ -145,14 +145,14 @@ least-stands b m k [] us h = inl h
 least-stands b m k (e ∷ es) [] h = inl h
 least-stands b m k (e ∷ es) (u ∷ us) h =
     ⊎-elim
-    (λ q. ⊎-elim (λ w. inr (inl (sym (w .0) ∙ sym q))) (λ w. inl (q ∙ w .0)) (near b m (place e) u))
+    (λ q. ⊎-elim (λ w. inr (inl (sym (w .0) ∙ sym q))) (λ w. inl (q ∙ w .0)) (near b m (tier e) u))
     (λ q. inr (inr q))
-    (least-stands b (nearer b m (place e) u) k es us h)
+    (least-stands b (nearer b m (tier e) u) k es us h)
 
 stands-among : (k : ℕ) (ks : List ℕ) (es : List Offer) → Covers 0 ks es → Stands k es → Among k ks
 stands-among k ks [] c s = absurd s
 stands-among k ks (e ∷ es) c (inl q) = rw q at (c .0 (omega arith))
 stands-among k ks (e ∷ es) c (inr s) = stands-among k ks es (c .1) s
 
-pub least-among : (b m k : ℕ) (es : List Offer) (us : List ℕ) → k ≡ leastFrom b m (spots es) us → k < m → Among k (places es)
-least-among b m k es us e h = stands-among k (places es) es (places-cover es) (⊎-elim (λ q. absurd (omega arith)) (λ q. q) (least-stands b m k es us e))
+pub least-among : (b m k : ℕ) (es : List Offer) (us : List ℕ) → k ≡ leastFrom b m (spots es) us → k < m → Among k (tiers es)
+least-among b m k es us e h = stands-among k (tiers es) es (tiers-cover es) (⊎-elim (λ q. absurd (omega arith)) (λ q. q) (least-stands b m k es us e))

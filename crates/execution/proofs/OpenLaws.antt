@@ -1,4 +1,4 @@
--- What is open to an order, slot by slot: modes and stages as numbers, an offer from its place and units, and what is open to an order as a table.
+-- What is open to an order, slot by slot: modes and stages as numbers, an offer from its tier and units, and what is open to an order as a table.
 use mathlib.Core.Path.{_≡_, refl, ap, ap₂, sym, _∙_}
 use mathlib.Core.Bool.{false, not}
 use mathlib.Core.List.{List, _∷_}
@@ -13,7 +13,7 @@ use lib.Seq.{getD-set-same, getD-set-other}
 use Rattle.rules.specs.Prices.{Derived}
 use Rattle.rules.specs.Book.{Stage, held, live, queued, answer, Entry}
 use Rattle.rules.specs.State.{contraPrice}
-use Rattle.rules.specs.Turn.{Rank, L, C, N, T, R, rankNumber, legs, entry, keyOf, Offer, place}
+use Rattle.rules.specs.Turn.{Rank, L, C, N, T, R, rankNumber, legs, entry, keyOf, Offer, tier}
 use Rattle.rules.specs.Execution.{Mode, fromQueue, goingLive, legsPass, opens, offersOf, legsOffer, upTo, allUpTo, interest, inside}
 use Rattle.rules.proofs.TestLaws.{pick-both}
 use Rattle.types.specs.View.{upto, from, stageOf}
@@ -49,7 +49,7 @@ queue-opens n = by-stage (λ k t. not (eqb k 2) ≡ opens fromQueue t) refl refl
 pub live-opens : (n : ℕ) → eqb n 1 ≡ opens goingLive (stageOf n)
 live-opens n = by-stage (λ k t. eqb k 1 ≡ opens goingLive t) refl refl refl (λ k a b. rw (ne-eqb k 1 a)) n
 
--- ---- an offer's key and rank, from its place
+-- ---- an offer's key and rank, from its tier
 
 key-back : (k : ℕ) (r : Rank) → (k * 8 + rankNumber r) / 8 ≡ k
 key-back k L = omega arith
@@ -74,16 +74,16 @@ rank-most k R = omega arith
 
 -- ---- the loop over the book
 
-pub stand-next : (offer : ℕ → Offer) (i : ℕ) (ps us : List ℕ) (x y : ℕ) → i + 1 < length ps → i + 1 < length us → x ≡ place (offer i) → y ≡ offer i .units
+pub stand-next : (offer : ℕ → Offer) (i : ℕ) (ps us : List ℕ) (x y : ℕ) → i + 1 < length ps → i + 1 < length us → x ≡ tier (offer i) → y ≡ offer i .units
     → Stand offer i ps us → Stand offer (i + 1) (set ps (i + 1) x) (set us (i + 1) y)
 stand-next offer i ps us x y hp hu ex ey s =
-    below-more (λ j. (getD (set ps (i + 1) x) (j + 1) 0 ≡ place (offer j)) × (getD (set us (i + 1) y) (j + 1) 0 ≡ offer j .units)) i
+    below-more (λ j. (getD (set ps (i + 1) x) (j + 1) 0 ≡ tier (offer j)) × (getD (set us (i + 1) y) (j + 1) 0 ≡ offer j .units)) i
     (λ j h. (getD-set-other ps (i + 1) (j + 1) x 0 (λ e. omega arith) ∙ s j h .0, getD-set-other us (i + 1) (j + 1) y 0 (λ e. omega arith) ∙ s j h .1))
     (getD-set-same ps (i + 1) x 0 hp ∙ ex, getD-set-same us (i + 1) y 0 hu ∙ ey)
 
 -- ---- what is open to an order, as a table
 
--- one place on
+-- one slot on
 upto-next : {A : Type 0} (f g : ℕ → A) → ((i : ℕ) → f (i + 1) ≡ g i) → (k n : ℕ) → upto f (k + 1) n ≡ upto g k n
 unfolding upto
 upto-next f g p k zero = refl
@@ -117,7 +117,7 @@ module _ (m : Mode) (longs words : List ℕ) (k : ℕ) (d : Derived) (D : d ≡ 
       ∙ sym (from-cons table 0 (n + 1) (omega arith))
 
   -- an offer from its slot
-  offer-is : (ps us : List ℕ) (s : ℕ) → getD ps s 0 ≡ place (table s) → getD us s 0 ≡ table s .units → offerIn longs words (d .price) ps us s ≡ table s
+  offer-is : (ps us : List ℕ) (s : ℕ) → getD ps s 0 ≡ tier (table s) → getD us s 0 ≡ table s .units → offerIn longs words (d .price) ps us s ≡ table s
   offer-is ps us s p u = go s (ap (λ (x : ℕ). x / 8) p ∙ key-back (table s .key) (table s .rank)) (ap (λ (x : ℕ). rankFrom (x % 8)) p ∙ rank-back (table s .key) (table s .rank)) u
     where
       go : (s : ℕ) → getD ps s 0 / 8 ≡ table s .key → rankFrom (getD ps s 0 % 8) ≡ table s .rank → getD us s 0 ≡ table s .units → offerIn longs words (d .price) ps us s ≡ table s
@@ -128,8 +128,8 @@ module _ (m : Mode) (longs words : List ℕ) (k : ℕ) (d : Derived) (D : d ≡ 
           rw (z, q) (λ i. record { contra = entry (entryAt longs words j .id); price = entryAt longs words j .price; key = a i; rank = b i; units = c i; arrival = entryAt longs words j .arrival })
 
   -- the legs' slot, and those of the book
-  module _ (ps us : List ℕ) (x y : ℕ) (hp : 0 < length ps) (hu : 0 < length us) (ex : x ≡ place first) (ey : y ≡ first .units) (book : Stand (bookOffer m longs words k) (openCount words) ps us) where
-    slot : (s : ℕ) → s < openCount words + 1 → (getD (set ps 0 x) s 0 ≡ place (table s)) × (getD (set us 0 y) s 0 ≡ table s .units)
+  module _ (ps us : List ℕ) (x y : ℕ) (hp : 0 < length ps) (hu : 0 < length us) (ex : x ≡ tier first) (ey : y ≡ first .units) (book : Stand (bookOffer m longs words k) (openCount words) ps us) where
+    slot : (s : ℕ) → s < openCount words + 1 → (getD (set ps 0 x) s 0 ≡ tier (table s)) × (getD (set us 0 y) s 0 ≡ table s .units)
     slot zero h = (getD-set-same ps 0 x 0 hp ∙ ex, getD-set-same us 0 y 0 hu ∙ ey)
     slot (suc i) h =
         let z : i + 1 ≡ suc i = omega arith in

@@ -11,7 +11,7 @@ use lib.ListN.{length, take, drop, getD, set}
 use lib.Seq.{length-take-le, drop-cons, take-suc-set, take-set-lt, drop-set-lt, set-getD}
 use Rattle.rules.specs.Basics.{pick, zeros}
 use Rattle.rules.specs.Prices.{cents}
-use Rattle.rules.specs.Turn.{rankNumber, Contra, Offer, place, sizes, Fill, fillOf, fillsAt}
+use Rattle.rules.specs.Turn.{rankNumber, Contra, Offer, tier, sizes, Fill, fillOf, fillsAt}
 use Rattle.types.specs.View.{upto}
 use Rattle.types.proofs.TableLaws.{from-length, from-last}
 use Rattle.share.proofs.LoopLaws.{row, row-end, push}
@@ -93,10 +93,10 @@ unfolding upto
 upto-take f l k zero h e = refl
 upto-take f l k (suc n) h e = rw (drop-cons l k 0 (omega arith), e k (omega arith) (omega arith), ← add-one k, upto-take f l (k + 1) n (omega arith) (λ s p q. e s (omega arith) (omega arith)))
 
-upto-spots : (g : ℕ → Offer) (k n : ℕ) → spots (upto g k n) ≡ upto (λ i. place (g i)) k n
+upto-spots : (g : ℕ → Offer) (k n : ℕ) → spots (upto g k n) ≡ upto (λ i. tier (g i)) k n
 unfolding upto spots
 upto-spots g k zero = refl
-upto-spots g k (suc n) = ap (λ (l : List ℕ). place (g k) ∷ l) (upto-spots g (k + 1) n)
+upto-spots g k (suc n) = ap (λ (l : List ℕ). tier (g k) ∷ l) (upto-spots g (k + 1) n)
 
 upto-sizes : (g : ℕ → Offer) (k n : ℕ) → sizes (upto g k n) ≡ upto (λ i. g i .units) k n
 unfolding upto
@@ -112,13 +112,13 @@ rank-number (suc (suc (suc (suc zero)))) h = refl
 rank-number (suc (suc (suc (suc (suc r))))) h = absurd (omega arith)
 
 module _ (longs words : List ℕ) (price : ℕ) (ps us : List ℕ) where
-  place-is : (s : ℕ) → getD ps s 0 % 8 ≤ 4 → place (offerIn longs words price ps us s) ≡ getD ps s 0
-  place-is s h = let r : rankNumber (rankFrom (getD ps s 0 % 8)) ≡ getD ps s 0 % 8 = rank-number (getD ps s 0 % 8) h in omega arith
+  tier-is : (s : ℕ) → getD ps s 0 % 8 ≤ 4 → tier (offerIn longs words price ps us s) ≡ getD ps s 0
+  tier-is s h = let r : rankNumber (rankFrom (getD ps s 0 % 8)) ≡ getD ps s 0 % 8 = rank-number (getD ps s 0 % 8) h in omega arith
 
   pub spots-are : (n : ℕ) → n ≤ length ps → Ranked n ps → spots (offersIn longs words price ps us n) ≡ take n ps
   spots-are n h r =
       let z : n - 0 ≡ n = omega arith in
-      rw z (upto-spots (offerIn longs words price ps us) 0 n ∙ upto-take (λ s. place (offerIn longs words price ps us s)) ps 0 n (omega arith) (λ s a b. place-is s (r s (omega arith))))
+      rw z (upto-spots (offerIn longs words price ps us) 0 n ∙ upto-take (λ s. tier (offerIn longs words price ps us s)) ps 0 n (omega arith) (λ s a b. tier-is s (r s (omega arith))))
 
   pub sizes-are : (n : ℕ) → n ≤ length us → sizes (offersIn longs words price ps us n) ≡ take n us
   sizes-are n h =
@@ -133,7 +133,7 @@ cleared (suc n) [] us e h z = absurd (omega arith)
 cleared (suc n) (g ∷ gave) [] e h z = absurd (omega arith)
 cleared (suc n) (g ∷ gave) (u ∷ us) e h z = ap₂ (λ (x : ℕ) (l : List ℕ). x ∷ l) (z 0) (cleared n gave us (omega arith) (omega arith) (λ s. z (suc s)))
 
--- ---- the records of those at place k: those of the first i slots are written
+-- ---- the records of those at tier k: those of the first i slots are written
 
 module _ (o : Order) (longs words ps us : List ℕ) (k i : ℕ) (gs : List ℕ) (x : ℕ) (h : i < length gs) (r : getD ps i 0 % 8 ≤ 4) where
   abbrev fillsTo : ℕ → List ℕ → List Fill
@@ -142,7 +142,7 @@ module _ (o : Order) (longs words ps us : List ℕ) (k i : ℕ) (gs : List ℕ) 
   abbrev offer : Offer
   offer = offerIn longs words (o .legs) ps us i
 
-  fills-more : fillsTo i gs ++ pick (eqb (place offer) k && ltb 0 x) (fillOf (o .number) (o .id) offer x ∷ []) [] ≡ fillsTo (i + 1) (set gs i x)
+  fills-more : fillsTo i gs ++ pick (eqb (tier offer) k && ltb 0 x) (fillOf (o .number) (o .id) offer x ∷ []) [] ≡ fillsTo (i + 1) (set gs i x)
   fills-more =
       let z : i - 0 ≡ i = omega arith in
       let l : length (offersIn longs words (o .legs) ps us i) ≡ length (take i gs) = from-length (offerIn longs words (o .legs) ps us) 0 i ∙ z ∙ sym (length-take-le i gs (omega arith)) in
@@ -150,12 +150,12 @@ module _ (o : Order) (longs words ps us : List ℕ) (k i : ℕ) (gs : List ℕ) 
 
   pub adds-yes : {old list list′ : List ℕ} {at w w′ : ℕ} → getD ps i 0 ≡ k → Adds old at list w (fillsTo i gs) → Adds list w list′ w′ (slotRecords (o .number) (o .id) (o .legs) words (k % 8) i x) → Adds old at list′ w′ (fillsTo (i + 1) (set gs i x))
   adds-yes {old} {list} {list′} {at} {w} {w′} e p q =
-      rw (← fills-more, eq-eqb (place offer) k (place-is longs words (o .legs) ps us i r ∙ e)) (adds-then old list list′ at w w′ (fillsTo i gs) (slotRecords (o .number) (o .id) (o .legs) words (getD ps i 0 % 8) i x) p (rw e q))
+      rw (← fills-more, eq-eqb (tier offer) k (tier-is longs words (o .legs) ps us i r ∙ e)) (adds-then old list list′ at w w′ (fillsTo i gs) (slotRecords (o .number) (o .id) (o .legs) words (getD ps i 0 % 8) i x) p (rw e q))
 
   pub adds-no : {old list : List ℕ} {at w : ℕ} → x ≡ getD gs i 0 → (getD ps i 0 ≡ k → ⊥) → Adds old at list w (fillsTo i gs) → Adds old at list w (fillsTo (i + 1) gs)
   adds-no {old} {list} {at} {w} q e p =
       let z : fillsTo (i + 1) (set gs i x) ≡ fillsTo (i + 1) gs = ap (fillsTo (i + 1)) (rw q (set-getD gs i 0)) in
-      rw (← z, ← fills-more, ne-eqb (place offer) k (λ y. e (sym (place-is longs words (o .legs) ps us i r) ∙ y)), append-nil) p
+      rw (← z, ← fills-more, ne-eqb (tier offer) k (λ y. e (sym (tier-is longs words (o .legs) ps us i r) ∙ y)), append-nil) p
 
 -- ---- one record
 

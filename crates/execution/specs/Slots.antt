@@ -1,11 +1,11 @@
--- The interest open to an order in slots, a place and units for each: slot 0 is the legs, slot k + 1 the entry at place k of the book.
+-- The interest open to an order in slots, a tier and units for each: slot 0 is the legs, slot k + 1 the entry at place k of the book.
 use mathlib.Core.Path.{_≡_}
 use mathlib.Core.List.{List}
 use Prim.Native.Nat.{ℕ, _+_, _-_, _/_, _%_, _≤_, _<_}
 use lib.Dec.{eqb}
 use lib.ListN.{getD}
 use Rattle.rules.specs.Basics.{pick}
-use Rattle.rules.specs.Turn.{legs, entry, keyOf, Offer, place}
+use Rattle.rules.specs.Turn.{legs, entry, keyOf, Offer, tier}
 use Rattle.rules.specs.Execution.{Mode, fromQueue, goingLive, legsPass, offerOf, upTo}
 use Rattle.types.specs.View.{from}
 use Rattle.state.specs.Layout as L
@@ -16,25 +16,25 @@ use Rattle.records.specs.Records.{rankFrom}
 abbrev pub modeOf : ℕ → Mode
 modeOf n = pick (eqb n 0) fromQueue (pick (eqb n 1) goingLive legsPass)
 
--- the offer in slot s, where the legs' price is given: its key and its rank are those of its place
+-- the offer in slot s, where the legs' price is given: its key and its rank are those of its tier
 abbrev pub offerIn : List ℕ → List ℕ → ℕ → List ℕ → List ℕ → ℕ → Offer
-offerIn longs words price places units s =
+offerIn longs words price tiers units s =
     record {
       contra = pick (eqb s 0) legs (entry (getD words (L.ids + (s - 1)) 0));
       price = pick (eqb s 0) price (getD words (L.prices + (s - 1)) 0);
-      key = getD places s 0 / 8;
-      rank = rankFrom (getD places s 0 % 8);
+      key = getD tiers s 0 / 8;
+      rank = rankFrom (getD tiers s 0 % 8);
       units = getD units s 0;
       arrival = pick (eqb s 0) 0 (getD longs (L.arrivals + (s - 1)) 0);
     }
 
 -- the offers in the first n slots
 abbrev pub offersIn : List ℕ → List ℕ → ℕ → List ℕ → List ℕ → ℕ → List Offer
-offersIn longs words price places units n = from (offerIn longs words price places units) 0 n
+offersIn longs words price tiers units n = from (offerIn longs words price tiers units) 0 n
 
--- the first n places are of ranks that there are
+-- the first n tiers are of ranks that there are
 abbrev pub Ranked : ℕ → List ℕ → Type 0
-Ranked n places = (s : ℕ) → s < n → getD places s 0 % 8 ≤ 4
+Ranked n tiers = (s : ℕ) → s < n → getD tiers s 0 % 8 ≤ 4
 
 -- what the entry at place i offers the order at place k within its limit
 abbrev pub bookOffer : Mode → List ℕ → List ℕ → ℕ → ℕ → Offer
@@ -42,4 +42,4 @@ bookOffer m longs words k i = let o = entryAt longs words k in upTo (keyOf (o .b
 
 -- the first n of these offers stand in the slots from 1 on
 abbrev pub Stand : (ℕ → Offer) → ℕ → List ℕ → List ℕ → Type 0
-Stand offer n places units = (i : ℕ) → i < n → (getD places (i + 1) 0 ≡ place (offer i)) × (getD units (i + 1) 0 ≡ offer i .units)
+Stand offer n tiers units = (i : ℕ) → i < n → (getD tiers (i + 1) 0 ≡ tier (offer i)) × (getD units (i + 1) 0 ≡ offer i .units)

@@ -8,7 +8,7 @@ use lib.ListN.{length, getD, take}
 use Rattle.rules.specs.Basics.{pick, sum}
 use Rattle.rules.specs.Prices.{cents, Derived}
 use Rattle.rules.specs.State.{contraPrice}
-use Rattle.rules.specs.Turn.{legs, entry, Offer, places, turn, Fill, fillsAt, fillsOf}
+use Rattle.rules.specs.Turn.{legs, entry, Offer, tiers, turn, Fill, fillsAt, fillsOf}
 use Rattle.rules.specs.Execution.{Mode, inside, turnOf}
 use Rattle.state.specs.Layout as L
 use Rattle.state.specs.Layout.{WordsSized}
@@ -34,14 +34,14 @@ slotRecord number order price words rank s units =
 abbrev pub slotRecords : ℕ → ℕ → ℕ → List ℕ → ℕ → ℕ → ℕ → List Fill
 slotRecords number order price words rank s units = pick (ltb 0 units) (slotRecord number order price words rank s units ∷ []) []
 
--- the first n slots stand at these places, and records can be written of what they give an order
+-- the first n slots stand at these tiers, and records can be written of what they give an order
 abbrev pub Slotted : List ℕ → List ℕ → Order → ℕ → Type 0
-Slotted words places o n = WordsSized words × (o .legs ≤ mostGiven) × (n ≤ 65) × (length places ≡ 65) × Ranked n places
+Slotted words tiers o n = WordsSized words × (o .legs ≤ mostGiven) × (n ≤ 65) × (length tiers ≡ 65) × Ranked n tiers
 
--- the records of those at place k are added, by their grants: neither arrivals nor units are read
+-- the records of those at tier k are added, by their grants: neither arrivals nor units are read
 abbrev pub WritesAt : ℕ → Lent → Lent → ℕ → ℕ → Order → Lent → ℕ → Lent → Type 0
-WritesAt k words list at r o places n gave =
-    (longs units : List ℕ) → Writes list at r (fillsAt (o .number) (o .id) k (offersIn longs (now (words .entry)) (o .legs) (now (places .entry)) units n) (take n (now (gave .exit))))
+WritesAt k words list at r o tiers n gave =
+    (longs units : List ℕ) → Writes list at r (fillsAt (o .number) (o .id) k (offersIn longs (now (words .entry)) (o .legs) (now (tiers .entry)) units n) (take n (now (gave .exit))))
 
 -- no grants yet
 abbrev pub Cleared : List ℕ → Type 0
@@ -51,7 +51,7 @@ Cleared gave = (length gave ≡ 65) × ((s : ℕ) → getD gave s 0 ≡ 0)
 pub record Turned (number id units : ℕ) (es : List Offer) (gave : List ℕ) (took : ℕ) (old : List ℕ) (at : ℕ) (new : List ℕ) (r : ℕ) : Type 0 where
   pub given : gave ≡ turn units es
   pub taken : took ≡ sum (turn units es)
-  pub records : Adds old at new r (fillsOf number id (places es) es (turn units es))
+  pub records : Adds old at new r (fillsOf number id (tiers es) es (turn units es))
 
 -- the order at place k of the book, with the legs' price for it
 abbrev pub orderAt : List ℕ → List ℕ → ℕ → ℕ → Order

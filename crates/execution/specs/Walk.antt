@@ -1,20 +1,20 @@
--- What the loops over the slots compute: lists of places and of units, as long as each other.
+-- What the loops over the slots compute: lists of tiers and of units, as long as each other.
 use mathlib.Core.List.{List, [], _∷_}
 use Prim.Native.Nat.{ℕ, _+_, _<_}
 use lib.Dec.{eqb, ltb, leb}
 use Rattle.rules.specs.Basics.{pick}
-use Rattle.rules.specs.Turn.{Offer, place}
+use Rattle.rules.specs.Turn.{Offer, tier}
 
--- the place of each offer
+-- the tier of each offer
 unfoldable pub spots : List Offer → List ℕ
 spots [] = []
-spots (e ∷ es) = place e ∷ spots es
+spots (e ∷ es) = tier e ∷ spots es
 
--- no place: above every one
-abbrev pub noPlace : ℕ
-noPlace = 4_294_967_296
+-- no tier: above every one
+abbrev pub noTier : ℕ
+noTier = 4_294_967_296
 
--- the nearest place from b on that has units, where m is so far: p where it is below m, else m
+-- the nearest tier from b on that has units, where m is so far: p where it is below m, else m
 abbrev pub nearer : ℕ → ℕ → ℕ → ℕ → ℕ
 nearer b m p u = pick (leb b p) (pick (ltb p m) (pick (ltb 0 u) p m) m) m
 
@@ -22,7 +22,7 @@ nearer b m p u = pick (leb b p) (pick (ltb p m) (pick (ltb 0 u) p m) m) m
 abbrev pub gathered : ℕ → ℕ → ℕ → ℕ → ℕ → ℕ
 gathered b m t p u = pick (leb b p) (pick (ltb p m) (pick (ltb 0 u) u t) (pick (eqb p m) (t + u) t)) t
 
--- the least of m and the places from b on that have units
+-- the least of m and the tiers from b on that have units
 unfoldable pub leastFrom : ℕ → ℕ → List ℕ → List ℕ → ℕ
 leastFrom b m [] us = m
 leastFrom b m (p ∷ ps) [] = m
@@ -34,13 +34,13 @@ totalFrom b m t [] us = t
 totalFrom b m t (p ∷ ps) [] = t
 totalFrom b m t (p ∷ ps) (u ∷ us) = totalFrom b (nearer b m p u) (gathered b m t p u) ps us
 
--- the units at place k, 0 for those elsewhere
+-- the units at tier k, 0 for those elsewhere
 unfoldable pub sizesOf : ℕ → List ℕ → List ℕ → List ℕ
 sizesOf k [] us = []
 sizesOf k (p ∷ ps) [] = []
 sizesOf k (p ∷ ps) (u ∷ us) = pick (eqb p k) u 0 ∷ sizesOf k ps us
 
--- the new numbers for those at place k, the old ones for the others
+-- the new numbers for those at tier k, the old ones for the others
 unfoldable pub over : ℕ → List ℕ → List ℕ → List ℕ → List ℕ
 over k [] xs gs = []
 over k (p ∷ ps) [] gs = []

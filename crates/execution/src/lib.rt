@@ -19,7 +19,7 @@ ghost use Rattle.state.specs.View.{entryAt, stateOf};
 ghost use Rattle.state.specs.Lent.{Becomes};
 ghost use Rattle.records.specs.Records.{mostGiven, Writes};
 ghost use Rattle.execution.specs.Slots.{modeOf, offersIn};
-ghost use Rattle.execution.specs.Walk.{noPlace, nearer, gathered, leastFrom, sizesOf, over, Under};
+ghost use Rattle.execution.specs.Walk.{noTier, nearer, gathered, leastFrom, sizesOf, over, Under};
 ghost use Rattle.execution.specs.Turned.{slotRecords, Slotted, WritesAt, Cleared, Turned, orderAt, IsContra, Turns, Gives};
 ghost use Rattle.execution.specs.Plays.{Plays};
 
@@ -57,21 +57,21 @@ fn put_slot(
     records::put_record(list, at, number, order, rank, contra, price, units)
 }
 
-// ---- the nearest place
+// ---- the nearest tier
 
-// No place: above every one.
+// No tier: above every one.
 const NONE: u64 = 4_294_967_296;
 
-// A place, and the units there.
-struct Place {
+// A tier, and the units there.
+struct Tier {
     pub number: u64,
     pub units: u64,
 }
 
-// The nearest place from b on that has units, where m is so far, with a slot of u units at p.
-fn nearer(b: u64, m: Place, p: u32, u: u32) -> Place
+// The nearest tier from b on that has units, where m is so far, with a slot of u units at p.
+fn nearer(b: u64, m: Tier, p: u32, u: u32) -> Tier
     requires { ⌜ m .units ≤ 64 * 4294967295 ⌝ }
-    ensures { λ r. ⌜ (r .number ≡ nearer b (m .number) p u) × (r .units ≡ gathered b (m .number) (m .units) p u) × (r .units ≤ m .units + 4294967295) × (p < noPlace) ⌝ }
+    ensures { λ r. ⌜ (r .number ≡ nearer b (m .number) p u) × (r .units ≡ gathered b (m .number) (m .units) p u) × (r .units ≤ m .units + 4294967295) × (p < noTier) ⌝ }
 {
     let q = p as u64;
     if q < b {
@@ -84,36 +84,36 @@ fn nearer(b: u64, m: Place, p: u32, u: u32) -> Place
         return m;
     }
     if q < m.number {
-        return Place {
+        return Tier {
             number: q,
             units: u as u64,
         };
     }
-    Place {
+    Tier {
         number: q,
         units: m.units + (u as u64),
     }
 }
 
-// The nearest place from b on that has units, if there is one, and "the rank's total".
-fn nearest(places: &[u32; 65], units: &[u32; 65], n: usize, b: u64) -> Place
-    requires { ⌜ (n ≤ 65) × (length (now places) ≡ 65) × (length (now units) ≡ 65) × (b ≤ noPlace) ⌝ }
-    ensures { λ r. ⌜ (r .number ≡ leastFrom b noPlace (take n (now (places .entry))) (take n (now (units .entry))))
-        × (r .units ≡ sum (sizesOf (r .number) (take n (now (places .entry))) (take n (now (units .entry))))) × Under noPlace (take n (now (places .entry))) ⌝ }
+// The nearest tier from b on that has units, if there is one, and "the rank's total".
+fn nearest(tiers: &[u32; 65], units: &[u32; 65], n: usize, b: u64) -> Tier
+    requires { ⌜ (n ≤ 65) × (length (now tiers) ≡ 65) × (length (now units) ≡ 65) × (b ≤ noTier) ⌝ }
+    ensures { λ r. ⌜ (r .number ≡ leastFrom b noTier (take n (now (tiers .entry))) (take n (now (units .entry))))
+        × (r .units ≡ sum (sizesOf (r .number) (take n (now (tiers .entry))) (take n (now (units .entry))))) × Under noTier (take n (now (tiers .entry))) ⌝ }
 {
-    let mut m = Place {
+    let mut m = Tier {
         number: NONE,
         units: 0,
     };
     let mut i = 0;
     while i < n {
-        m = nearer(b, m, places[i], units[i]);
+        m = nearer(b, m, tiers[i], units[i]);
         i += 1;
     }
     m
 }
 
-// ---- what the slots at one place give
+// ---- what the slots at one tier give
 
 // The order whose turn it is: the number of the message that executes it, its id and units, and the legs' price for it.
 struct Order {
@@ -123,27 +123,27 @@ struct Order {
     pub legs: u64,
 }
 
-// The new grants of those at place k, and their records, by arrival.
+// The new grants of those at tier k, and their records, by arrival.
 fn give(
     words: &[u32],
     list: &mut [u64],
     at: usize,
     o: Order,
-    places: &[u32; 65],
+    tiers: &[u32; 65],
     n: usize,
     k: u64,
     new: &[u32; 65],
     gave: &mut [u32; 65],
 ) -> usize
-    requires { ⌜ Slotted (now words) (now places) o n × (length (now new) ≡ 65) × (length (now gave) ≡ 65) ⌝ }
-    ensures { λ r. ⌜ (length (now (gave .exit)) ≡ 65) × (take n (now (gave .exit)) ≡ over k (take n (now (places .entry))) (take n (now (new .entry))) (take n (now (gave .entry))))
-        × WritesAt k words list at r o places n gave ⌝ }
+    requires { ⌜ Slotted (now words) (now tiers) o n × (length (now new) ≡ 65) × (length (now gave) ≡ 65) ⌝ }
+    ensures { λ r. ⌜ (length (now (gave .exit)) ≡ 65) × (take n (now (gave .exit)) ≡ over k (take n (now (tiers .entry))) (take n (now (new .entry))) (take n (now (gave .entry))))
+        × WritesAt k words list at r o tiers n gave ⌝ }
 {
     let rank = (k % 8) as u32;
     let mut w = at;
     let mut i = 0;
     while i < n {
-        if number::wide(places[i]) == k {
+        if number::wide(tiers[i]) == k {
             gave[i] = new[i];
             w = put_slot(words, list, w, o.number, o.id, o.legs, rank, i, new[i]);
             i += 1;
@@ -154,26 +154,26 @@ fn give(
     w
 }
 
-// The number x for a slot at place k, 0 for another.
-fn at_place(p: u32, k: u64, x: u32) -> u32
+// The number x for a slot at tier k, 0 for another.
+fn at_tier(p: u32, k: u64, x: u32) -> u32
     ensures { λ r. ⌜ r ≡ pick (eqb p k) x 0 ⌝ }
 {
     if p as u64 == k { x } else { 0 }
 }
 
-// The units at place k, 0 for those elsewhere.
-fn gather(places: &[u32; 65], units: &[u32; 65], n: usize, k: u64, sizes: &mut [u32; 65])
-    requires { ⌜ (n ≤ 65) × (length (now places) ≡ 65) × (length (now units) ≡ 65) × (length (now sizes) ≡ 65) ⌝ }
-    ensures { λ _. ⌜ (length (now (sizes .exit)) ≡ 65) × (take n (now (sizes .exit)) ≡ sizesOf k (take n (now (places .entry))) (take n (now (units .entry)))) ⌝ }
+// The units at tier k, 0 for those elsewhere.
+fn gather(tiers: &[u32; 65], units: &[u32; 65], n: usize, k: u64, sizes: &mut [u32; 65])
+    requires { ⌜ (n ≤ 65) × (length (now tiers) ≡ 65) × (length (now units) ≡ 65) × (length (now sizes) ≡ 65) ⌝ }
+    ensures { λ _. ⌜ (length (now (sizes .exit)) ≡ 65) × (take n (now (sizes .exit)) ≡ sizesOf k (take n (now (tiers .entry))) (take n (now (units .entry)))) ⌝ }
 {
     let mut i = 0;
     while i < n {
-        sizes[i] = at_place(places[i], k, units[i]);
+        sizes[i] = at_tier(tiers[i], k, units[i]);
         i += 1;
     }
 }
 
-// Whether place k is of rank C or N.
+// Whether tier k is of rank C or N.
 fn is_shared(k: u64) -> bool
     ensures { λ r. ⌜ r ≡ isShared k ⌝ }
 {
@@ -196,29 +196,29 @@ fn deal(sizes: &[u32; 65], n: usize, k: u64, amount: u32, shares: &mut [u32; 65]
     }
 }
 
-// An amount below the total at place k, dealt to those there, and their records.
+// An amount below the total at tier k, dealt to those there, and their records.
 fn give_part(
     words: &[u32],
     list: &mut [u64],
     at: usize,
     o: Order,
-    places: &[u32; 65],
+    tiers: &[u32; 65],
     units: &[u32; 65],
     n: usize,
     k: u64,
     amount: u32,
     gave: &mut [u32; 65],
 ) -> usize
-    requires { ⌜ Slotted (now words) (now places) o n × (length (now units) ≡ 65) × (length (now gave) ≡ 65) ⌝ }
+    requires { ⌜ Slotted (now words) (now tiers) o n × (length (now units) ≡ 65) × (length (now gave) ≡ 65) ⌝ }
     ensures { λ r. ⌜ (length (now (gave .exit)) ≡ 65)
-        × (take n (now (gave .exit)) ≡ over k (take n (now (places .entry))) (deal k amount (sizesOf k (take n (now (places .entry))) (take n (now (units .entry))))) (take n (now (gave .entry))))
-        × WritesAt k words list at r o places n gave ⌝ }
+        × (take n (now (gave .exit)) ≡ over k (take n (now (tiers .entry))) (deal k amount (sizesOf k (take n (now (tiers .entry))) (take n (now (units .entry))))) (take n (now (gave .entry))))
+        × WritesAt k words list at r o tiers n gave ⌝ }
 {
     let mut sizes = [0u32; 65];
     let mut shares = [0u32; 65];
-    gather(places, units, n, k, &mut sizes);
+    gather(tiers, units, n, k, &mut sizes);
     deal(&sizes, n, k, amount, &mut shares);
-    give(words, list, at, o, places, n, k, &shares, gave)
+    give(words, list, at, o, tiers, n, k, &shares, gave)
 }
 
 // ---- a turn
@@ -229,27 +229,27 @@ struct Taken {
     pub units: u32,
 }
 
-// One order's turn over the offers in the first n slots, place by place while units are left.
+// One order's turn over the offers in the first n slots, tier by tier while units are left.
 fn turn(
     words: &[u32],
     list: &mut [u64],
     at: usize,
     o: Order,
-    places: &[u32; 65],
+    tiers: &[u32; 65],
     units: &[u32; 65],
     n: usize,
     gave: &mut [u32; 65],
 ) -> Taken
-    requires { ⌜ Slotted (now words) (now places) o n × (length (now units) ≡ 65) × Cleared (now gave) ⌝ }
+    requires { ⌜ Slotted (now words) (now tiers) o n × (length (now units) ≡ 65) × Cleared (now gave) ⌝ }
     ensures { λ r. ⌜ (length (now (gave .exit)) ≡ 65)
-        × ((longs : List ℕ) → Turned (o .number) (o .id) (o .units) (offersIn longs (now (words .entry)) (o .legs) (now (places .entry)) (now (units .entry)) n)
+        × ((longs : List ℕ) → Turned (o .number) (o .id) (o .units) (offersIn longs (now (words .entry)) (o .legs) (now (tiers .entry)) (now (units .entry)) n)
         (take n (now (gave .exit))) (r .units) (now (list .entry)) at (now (list .exit)) (r .count)) ⌝ }
 {
     let mut w = at;
     let mut rest = number::wide(o.units);
     let mut b: u64 = 0;
     while 0 < rest {
-        let m = nearest(places, units, n, b);
+        let m = nearest(tiers, units, n, b);
         if NONE <= m.number {
             return Taken {
                 count: w,
@@ -262,7 +262,7 @@ fn turn(
                 list,
                 w,
                 o,
-                places,
+                tiers,
                 units,
                 n,
                 m.number,
@@ -274,7 +274,7 @@ fn turn(
                 units: o.units,
             };
         }
-        w = give(words, list, w, o, places, n, m.number, units, gave);
+        w = give(words, list, w, o, tiers, n, m.number, units, gave);
         rest -= m.units;
         b = m.number + 1;
     }
@@ -314,11 +314,11 @@ fn open_turn(
     requires { ⌜ Sized (now longs) (now words) × (k < 64) × Cleared (now gave) × IsContra (now longs) (now words) k (derivedOf d) ⌝ }
     ensures { λ r. ⌜ Turns (modeOf mode) longs words k gave (r .units) list at (r .count) ⌝ }
 {
-    let mut places = [0u32; 65];
+    let mut tiers = [0u32; 65];
     let mut units = [0u32; 65];
     let o = order_at(longs, words, k, d.price);
-    let n = offers::interest(longs, words, mode, k, d, &mut places, &mut units);
-    turn(words, list, at, o, &places, &units, n, gave)
+    let n = offers::interest(longs, words, mode, k, d, &mut tiers, &mut units);
+    turn(words, list, at, o, &tiers, &units, n, gave)
 }
 
 // Its turn in the legs' pass, where only the legs are open to it.

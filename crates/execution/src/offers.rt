@@ -1,9 +1,10 @@
-// Document 01, "Execution": the interest open to an order, read from the state and written in slots: a place and units for each.
+// Document 01, "Execution": the interest open to an order, read from the state and written in slots: a tier and units for each.
 // Slot 0 is the legs, slot k + 1 the entry at place k of the book.
 use state::Auction;
 use state::Book;
 use state::Stage;
 use types::Derived;
+use types::Order;
 ghost use mathlib.Core.Path.{_≡_};
 ghost use mathlib.Core.Bool.{_&&_, not};
 ghost use mathlib.Core.List.{List};
@@ -11,7 +12,7 @@ ghost use Prim.Native.Nat.{ℕ, _+_, _*_, _<_, _≤_};
 ghost use lib.Dec.{leb};
 ghost use lib.ListN.{length, getD};
 ghost use Rattle.rules.specs.Basics.{pick};
-ghost use Rattle.rules.specs.Prices.{mostHeld};
+ghost use Rattle.rules.specs.Prices.{mostBiased};
 ghost use Rattle.rules.specs.Book.{sameSide};
 ghost use Rattle.rules.specs.State.{contraPrice};
 ghost use Rattle.rules.specs.Auction.{areLate};
@@ -35,7 +36,7 @@ impl Mode {
     pub const LEGS_PASS: u8 = 2;
 }
 
-// The numbers of the ranks in a place, in their sequence at one price.
+// The numbers of the ranks in a tier, in their sequence at one price.
 pub struct Rank {}
 
 impl Rank {
@@ -50,25 +51,25 @@ impl Rank {
     pub const R: u32 = 4;
 }
 
-// The greatest price as held.
-const MOST_HELD: u64 = 80_000_000;
+// The greatest biased price.
+const MOST_BIASED: u64 = 2 * Order::MOST_CENTS as u64;
 
 // ---- prices
 
 // What a unit costs an order at a price: lower is better, for a seller too.
 fn key(buy: bool, price: u64) -> u32
-    ensures { λ r. ⌜ (r ≡ keyOf buy price) × (r ≤ mostHeld) ⌝ }
+    ensures { λ r. ⌜ (r ≡ keyOf buy price) × (r ≤ mostBiased) ⌝ }
 {
-    let p = number::lesser_long(price, MOST_HELD);
+    let p = number::lesser_long(price, MOST_BIASED);
     if buy {
         p as u32
     } else {
-        (MOST_HELD - p) as u32
+        (MOST_BIASED - p) as u32
     }
 }
 
 // "Price by price, best first", and at one price rank by rank.
-fn place(buy: bool, price: u64, rank: u32) -> u32
+fn tier(buy: bool, price: u64, rank: u32) -> u32
     requires { ⌜ rank < 8 ⌝ }
     ensures { λ r. ⌜ r ≡ keyOf buy price * 8 + rank ⌝ }
 {
@@ -129,12 +130,12 @@ fn legs_rank(longs: &[u64], words: &[u32], mode: u8, buy: bool, price: u64) -> u
     }
 }
 
-// The place of the legs.
-fn legs_place(longs: &[u64], words: &[u32], mode: u8, buy: bool, price: u64) -> u32
+// The tier of the legs.
+fn legs_tier(longs: &[u64], words: &[u32], mode: u8, buy: bool, price: u64) -> u32
     requires { ⌜ Sized (now longs) (now words) ⌝ }
     ensures { λ r. ⌜ r ≡ keyOf buy price * 8 + rankNumber (legsRank (modeOf mode) (auctionOf (now (longs .entry)) (now (words .entry))) buy price) ⌝ }
 {
-    place(buy, price, legs_rank(longs, words, mode, buy, price))
+    tier(buy, price, legs_rank(longs, words, mode, buy, price))
 }
 
 // The units of the legs within a limit.
@@ -157,14 +158,14 @@ fn entry_rank(mode: u8, customer: bool) -> u32
     if customer { Rank::C } else { Rank::N }
 }
 
-// The place of the entry at place i of the book.
-fn entry_place(words: &[u32], mode: u8, buy: bool, i: usize) -> u32
+// The tier of the entry at place i of the book.
+fn entry_tier(words: &[u32], mode: u8, buy: bool, i: usize) -> u32
     requires { ⌜ WordsSized (now words) × (i < 64) ⌝ }
     ensures { λ r. ⌜ r ≡ keyOf buy (getD (now (words .entry)) (L.prices + i) 0) * 8 + rankNumber (rankOf (modeOf mode) (flag (getD (now (words .entry)) (L.customers + i) 0))) ⌝ }
 {
     let price = number::wide(words[Book::PRICES + i]);
     let customer = state::is_set(words[Book::CUSTOMERS + i]);
-    place(buy, price, entry_rank(mode, customer))
+    tier(buy, price, entry_rank(mode, customer))
 }
 
 // "Open to a queue order: legs, live and held opposite orders, opposite responses. Open to a held order: legs and live opposite orders. In the legs' pass: legs."
@@ -214,19 +215,19 @@ fn book_interest(
     words: &[u32],
     mode: u8,
     k: usize,
-    places: &mut [u32; 65],
+    tiers: &mut [u32; 65],
     units: &mut [u32; 65],
 ) -> usize
-    requires { ⌜ WordsSized (now words) × (k < 64) × (length (now places) ≡ 65) × (length (now units) ≡ 65) ⌝ }
-    ensures { λ r. ⌜ (r ≡ openCount (now (words .entry))) × (length (now (places .exit)) ≡ 65) × (length (now (units .exit)) ≡ 65)
-        × ((longs : List ℕ) → Stand (bookOffer (modeOf mode) longs (now (words .entry)) k) r (now (places .exit)) (now (units .exit))) ⌝ }
+    requires { ⌜ WordsSized (now words) × (k < 64) × (length (now tiers) ≡ 65) × (length (now units) ≡ 65) ⌝ }
+    ensures { λ r. ⌜ (r ≡ openCount (now (words .entry))) × (length (now (tiers .exit)) ≡ 65) × (length (now (units .exit)) ≡ 65)
+        × ((longs : List ℕ) → Stand (bookOffer (modeOf mode) longs (now (words .entry)) k) r (now (tiers .exit)) (now (units .exit))) ⌝ }
 {
     let m = state::open_count(words);
     let buy = state::is_set(words[Book::BUYS + k]);
     let last = key(buy, number::wide(words[Book::PRICES + k]));
     let mut i = 0;
     while i < m {
-        places[i + 1] = entry_place(words, mode, buy, i);
+        tiers[i + 1] = entry_tier(words, mode, buy, i);
         units[i + 1] = entry_units(words, mode, buy, last, i);
         i += 1;
     }
@@ -242,19 +243,19 @@ pub fn interest(
     mode: u8,
     k: usize,
     d: Derived,
-    places: &mut [u32; 65],
+    tiers: &mut [u32; 65],
     units: &mut [u32; 65],
 ) -> usize
-    requires { ⌜ Sized (now longs) (now words) × (k < 64) × (length (now places) ≡ 65) × (length (now units) ≡ 65)
+    requires { ⌜ Sized (now longs) (now words) × (k < 64) × (length (now tiers) ≡ 65) × (length (now units) ≡ 65)
         × (derivedOf d ≡ contraPrice (stateOf (now longs) (now words)) (entryAt (now longs) (now words) k .buy)) ⌝ }
-    ensures { λ r. ⌜ (r ≡ openCount (now (words .entry)) + 1) × (length (now (places .exit)) ≡ 65) × (length (now (units .exit)) ≡ 65) × Ranked r (now (places .exit))
-        × (offersIn (now (longs .entry)) (now (words .entry)) (d .price) (now (places .exit)) (now (units .exit)) r
+    ensures { λ r. ⌜ (r ≡ openCount (now (words .entry)) + 1) × (length (now (tiers .exit)) ≡ 65) × (length (now (units .exit)) ≡ 65) × Ranked r (now (tiers .exit))
+        × (offersIn (now (longs .entry)) (now (words .entry)) (d .price) (now (tiers .exit)) (now (units .exit)) r
         ≡ inside (modeOf mode) (stateOf (now (longs .entry)) (now (words .entry))) (entryAt (now (longs .entry)) (now (words .entry)) k)) ⌝ }
 {
     let buy = state::is_set(words[Book::BUYS + k]);
     let limit = words[Book::PRICES + k];
-    let m = book_interest(words, mode, k, places, units);
-    places[0] = legs_place(longs, words, mode, buy, d.price);
+    let m = book_interest(words, mode, k, tiers, units);
+    tiers[0] = legs_tier(longs, words, mode, buy, d.price);
     units[0] = legs_units(buy, limit, d);
     m + 1
 }

@@ -18,28 +18,28 @@ use Rattle.state.specs.View.{stateOf}
 use Rattle.records.specs.Records.{width, recordIn, recordAt}
 use Rattle.engine.specs.declared.Answer.{Answer}
 use Rattle.engine.specs.Steps.{placesIn, IsStep}
-use Rattle.fills.specs.Fills.{heldFill, written, recordsFor, IsApplied}
+use Rattle.fills.specs.Fills.{storedFill, written, recordsFor, IsApplied}
 use Rattle.fills.proofs.ListLaws.{sets-written}
-use Rattle.fills.proofs.HeldLaws.{held-one}
+use Rattle.fills.proofs.StoredLaws.{stored-one}
 
 -- ---- the records of the numbers, from place i to before n, as they are held
 
-abbrev pub heldIn : List ℕ → ℕ → ℕ → List Fill
-heldIn xs i n = map heldFill (from (recordIn xs) i n)
+abbrev pub storedIn : List ℕ → ℕ → ℕ → List Fill
+storedIn xs i n = map storedFill (from (recordIn xs) i n)
 
-pub held-more : (xs : List ℕ) (i n : ℕ) (f : Fill) → i < n → n * width ≤ length xs → fillOf f ≡ recordAt xs i → heldIn xs i n ≡ f ∷ heldIn xs (i + 1) n
-held-more xs i n f l h e =
-    ap (map heldFill) (from-cons (recordIn xs) i n l) ∙ ap (λ (g : Fill). g ∷ heldIn xs (i + 1) n) (held-one f (recordIn xs i) (e ∙ there))
+pub stored-more : (xs : List ℕ) (i n : ℕ) (f : Fill) → i < n → n * width ≤ length xs → fillOf f ≡ recordAt xs i → storedIn xs i n ≡ f ∷ storedIn xs (i + 1) n
+stored-more xs i n f l h e =
+    ap (map storedFill) (from-cons (recordIn xs) i n l) ∙ ap (λ (g : Fill). g ∷ storedIn xs (i + 1) n) (stored-one f (recordIn xs i) (e ∙ there))
   where
     there : recordAt xs i ≡ recordIn xs i
     there = let q : i < length xs / width = omega (arith, l, h) in rw (lt-ltb i (length xs / width) q) refl
 
-pub held-none : (xs : List ℕ) (i n : ℕ) → n ≤ i → heldIn xs i n ≡ []
-held-none xs i n l = ap (map heldFill) (from-end (recordIn xs) i n l)
+pub stored-none : (xs : List ℕ) (i n : ℕ) → n ≤ i → storedIn xs i n ≡ []
+stored-none xs i n l = ap (map storedFill) (from-end (recordIn xs) i n l)
 
-pub held-first : (xs : List ℕ) (ys : List Fill) (n : ℕ) → n ≤ length ys → sets ys 0 (heldIn xs 0 n) ≡ written ys (heldIn xs 0 n)
-held-first xs ys n l =
-    sets-written ys (heldIn xs 0 n) (omega (arith, l, length-map (from (recordIn xs) 0 n) heldFill, from-length (recordIn xs) 0 n))
+pub stored-first : (xs : List ℕ) (ys : List Fill) (n : ℕ) → n ≤ length ys → sets ys 0 (storedIn xs 0 n) ≡ written ys (storedIn xs 0 n)
+stored-first xs ys n l =
+    sets-written ys (storedIn xs 0 n) (omega (arith, l, length-map (from (recordIn xs) 0 n) storedFill, from-length (recordIn xs) 0 n))
 
 -- ---- the end
 
@@ -55,7 +55,7 @@ module _ (ls ws xs : List ℕ) (ys : List Fill) (m : Message) (a : Answer) (ls�
   pub numbers-fit : a .count * width ≤ length xs′
   numbers-fit = omega (arith, e .inside .1, e .sized .2)
 
-  pub is-applied : (zs : List Fill) → length zs ≡ length ys → zs ≡ written ys (heldIn xs′ 0 (a .count)) → IsApplied ls ws xs ys m (a .outcome) ls′ ws′ xs′ zs
+  pub is-applied : (zs : List Fill) → length zs ≡ length ys → zs ≡ written ys (storedIn xs′ 0 (a .count)) → IsApplied ls ws xs ys m (a .outcome) ls′ ws′ xs′ zs
   is-applied zs k z = record {
     state = e .state;
     outcome = e .outcome;
@@ -63,8 +63,8 @@ module _ (ls ws xs : List ℕ) (ys : List Fill) (m : Message) (a : Answer) (ls�
     behind = λ i h. e .behind i (omega (arith, h, e .count));
     list = list-is;
     sized = (e .sized .0, e .sized .1, e .sized .2, k);
-    refused = λ n. (e .refused n .0, e .refused n .1, e .refused n .2, list-is ∙ ap (λ (fs : List U.Fill). written ys (map heldFill fs)) (none-refused (stateOf ls ws) m (placesIn ls ws xs (length ys)) n));
+    refused = λ n. (e .refused n .0, e .refused n .1, e .refused n .2, list-is ∙ ap (λ (fs : List U.Fill). written ys (map storedFill fs)) (none-refused (stateOf ls ws) m (placesIn ls ws xs (length ys)) n));
   }
     where
-      list-is : zs ≡ written ys (map heldFill (recordsFor ls ws xs ys m))
-      list-is = z ∙ ap (λ (fs : List U.Fill). written ys (map heldFill fs)) (e .records)
+      list-is : zs ≡ written ys (map storedFill (recordsFor ls ws xs ys m))
+      list-is = z ∙ ap (λ (fs : List U.Fill). written ys (map storedFill fs)) (e .records)

@@ -3,7 +3,7 @@ pub mod Buffers
 pub mod Shared
 pub mod Locals
 pub mod FillRow
-pub mod HeldLaws
+pub mod StoredLaws
 pub mod ListLaws
 pub mod AppliedLaws
 pub mod Callees

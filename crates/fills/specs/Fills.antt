@@ -17,19 +17,19 @@ use Rattle.records.specs.Records.{width}
 use Rattle.engine.specs.Steps.{recordsIn, refusalIn, answerIn}
 
 -- the rank, the contra and the record that stand for the rules'
-abbrev pub heldRank : U.Rank → Rank
-heldRank U.L = Rank.L
-heldRank U.C = Rank.C
-heldRank U.N = Rank.N
-heldRank U.T = Rank.T
-heldRank U.R = Rank.R
+abbrev pub storedRank : U.Rank → Rank
+storedRank U.L = Rank.L
+storedRank U.C = Rank.C
+storedRank U.N = Rank.N
+storedRank U.T = Rank.T
+storedRank U.R = Rank.R
 
-abbrev pub heldContra : U.Contra → Contra
-heldContra U.legs = Contra.Legs
-heldContra (U.entry i) = Contra.Entry i
+abbrev pub storedContra : U.Contra → Contra
+storedContra U.legs = Contra.Legs
+storedContra (U.entry i) = Contra.Entry i
 
-abbrev pub heldFill : U.Fill → Fill
-heldFill f = record { number = f .number; price = f .price; order = f .order; units = f .units; rank = heldRank (f .rank); contra = heldContra (f .contra) }
+abbrev pub storedFill : U.Fill → Fill
+storedFill f = record { number = f .number; price = f .price; order = f .order; units = f .units; rank = storedRank (f .rank); contra = storedContra (f .contra) }
 
 -- the list ys with the records fs at its start
 abbrev pub written : {A : Type 0} → List A → List A → List A
@@ -45,6 +45,6 @@ pub record IsApplied (ls ws xs : List ℕ) (ys : List Fill) (m : Message) (r : O
   pub outcome : outcomeOf r ≡ answerIn ls ws xs m (length ys) .outcome
   pub records : recordsIn xs′ (length (recordsFor ls ws xs ys m)) ≡ recordsFor ls ws xs ys m
   pub behind : (i : ℕ) → length (recordsFor ls ws xs ys m) * width ≤ i → getD xs′ i 0 ≡ getD xs i 0
-  pub list : zs ≡ written ys (map heldFill (recordsFor ls ws xs ys m))
+  pub list : zs ≡ written ys (map storedFill (recordsFor ls ws xs ys m))
   pub sized : (length ls′ ≡ length ls) × (length ws′ ≡ length ws) × (length xs′ ≡ length xs) × (length zs ≡ length ys)
   pub refused : 0 < refusalIn ls ws xs m (length ys) → (ls′ ≡ ls) × (ws′ ≡ ws) × (xs′ ≡ xs) × (zs ≡ ys)

@@ -4,7 +4,6 @@ ghost use mathlib.Core.Bool.{_&&_};
 ghost use Prim.Native.Nat.{_-_, _≤_};
 ghost use lib.Dec.{leb};
 ghost use lib.ListN.{length};
-ghost use Rattle.rules.specs.Filter.{beyond};
 ghost use Rattle.rules.specs.Book.{Entry as Open, held, queued, answer, withStage, without};
 ghost use Rattle.rules.specs.State.{Pending, pending, withBook, withAuction};
 ghost use Rattle.rules.specs.Auction.{eligible, auctionOf as beginning, endsByOrder, joins, endsByLegs};
@@ -14,7 +13,6 @@ ghost use Rattle.types.specs.View.{orderTerms, responseTerms, changeOf, localOf
 ghost use Rattle.state.specs.Layout.{Sized, LongsSized, WordsSized};
 ghost use Rattle.state.specs.View.{entryOf, clockOf, stateOf};
 ghost use Rattle.state.specs.Lent.{Tells, Becomes};
-ghost use Rattle.quotes.specs.Uses.{mostDerived};
 ghost use Rattle.intake.specs.Acts.{outside, during, TakesIn};
 use state::Auction;
 use state::Clock;
@@ -49,16 +47,6 @@ impl Act {
 
 // ---- eligibility and ends
 
-// Whether p is beyond q by more than n: above it for a buyer, below it for a seller.
-fn is_beyond(buy: bool, n: u32, p: u32, q: u64) -> bool
-    requires { ⌜ q ≤ mostDerived ⌝ }
-    ensures { λ r. ⌜ r ≡ beyond buy n p q ⌝ }
-{
-    let by = number::wide(n);
-    let x = number::wide(p);
-    if buy { q + by < x } else { x + by < q }
-}
-
 // "its units reach the class minimum, the strategy has at most the class's leg count".
 fn meets_class(words: &[u32], units: u32) -> bool
     requires { ⌜ WordsSized (now words) ⌝ }
@@ -76,7 +64,7 @@ fn is_eligible(words: &[u32], buy: bool, price: u32, units: u32) -> bool
     let distance = words[Settings::DISTANCE];
     let class = meets_class(words, units);
     let d = quotes::derived(words, buy);
-    let far = is_beyond(!buy, distance, price, d.price);
+    let far = price::is_beyond(!buy, number::wide(distance), price as u64, d.price);
     let front = book::in_front(words, buy, price);
     let live = book::near_live(words, buy, price, distance);
     class & front & (((0 < d.units) & !far) | live)
@@ -146,7 +134,7 @@ fn new_order(o: Order, number: u64) -> Entry
         arrival: number,
         id: o.id,
         participant: o.participant,
-        price: price::offset(o.price),
+        price: price::biased(o.price),
         units: o.units,
         buy: state::word_of(o.side == Leg::B),
         customer: state::word_of(o.account == Order::CUSTOMER),
@@ -162,7 +150,7 @@ fn new_response(t: Response, number: u64) -> Entry
         arrival: number,
         id: t.id,
         participant: t.participant,
-        price: price::offset(t.price),
+        price: price::biased(t.price),
         units: t.units,
         buy: state::word_of(t.side == Leg::B),
         customer: state::word_of(t.account == Order::CUSTOMER),
@@ -178,7 +166,7 @@ fn modified_entry(t: Modify, number: u64, e: Entry) -> Entry
         arrival: number,
         id: e.id,
         participant: e.participant,
-        price: price::offset(t.price),
+        price: price::biased(t.price),
         units: t.units,
         buy: state::word_of(t.side == Leg::B),
         customer: e.customer,

@@ -30,6 +30,13 @@ pub fn less(a: u32, b: u32) -> u32
     if b <= a { a - b } else { 0 }
 }
 
+// The same for long numbers.
+pub fn less_long(a: u64, b: u64) -> u64
+    ensures { λ r. ⌜ r ≡ a - b ⌝ }
+{
+    if b <= a { a - b } else { 0 }
+}
+
 // One below a number, not below 0.
 pub fn one_below(n: u64) -> u64
     ensures { λ r. ⌜ r ≡ n - 1 ⌝ }

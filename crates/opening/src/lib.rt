@@ -18,13 +18,14 @@ use state::Market;
 use state::Settings;
 use types::Leg;
 use types::Opening;
+use types::Refusal;
 
 mod strategy;
 
 // ---- legs
 
 // A byte with more room.
-fn word_of(byte: u8) -> u32
+fn wide(byte: u8) -> u32
     ensures { λ r. ⌜ r ≡ byte ⌝ }
 {
     byte as u32
@@ -38,7 +39,7 @@ fn put_symbol(words: &mut [u32], k: usize, symbol: [u8; 21])
     let start = Legs::SYMBOLS + Legs::SYMBOL_BYTES * k;
     let mut i: usize = 0;
     while i < Legs::SYMBOL_BYTES {
-        words[start + i] = word_of(symbol[i]);
+        words[start + i] = wide(symbol[i]);
         i += 1;
     }
 }
@@ -135,7 +136,7 @@ pub fn open(longs: &mut [u64], words: &mut [u32], o: Opening) -> u32
     ensures { λ r. ⌜ IsOpened longs words (openingOf o) r ⌝ }
 {
     if !state::is_sized(longs, words) {
-        return 10;
+        return Refusal::SHORT_LIST;
     }
     let number = strategy::refusal(o);
     if 0 < number {

@@ -1,8 +1,9 @@
-// Signed cents and prices as held, the cents plus 40,000,000. Signed numbers are taken apart here and nowhere else.
+// Signed cents and biased prices, which are the cents plus 40,000,000. Signed numbers are taken apart here and nowhere else.
 ghost use mathlib.Core.Path.{_≡_};
 ghost use Prim.Native.Nat.{_+_, _<_, min};
 ghost use lib.IntN.{negsuc};
-ghost use Rattle.rules.specs.Prices.{isLimit, offset as offsetOf, cents as centsOf};
+ghost use Rattle.rules.specs.Prices.{isLimit, biased as biasedOf, cents as centsOf};
+ghost use Rattle.rules.specs.Filter.{beyond};
 ghost use Rattle.rules.specs.Refusals.{natural as naturalOf, goodLocal, goodNational};
 ghost use Rattle.price.specs.Signed.{signedOf};
 use types::Fill;
@@ -41,9 +42,9 @@ pub fn is_limit(price: i32) -> bool
     s.size <= Order::MOST_CENTS
 }
 
-// A price as held; one below every limit is held as 0.
-pub fn offset(price: i32) -> u32
-    ensures { λ r. ⌜ r ≡ offsetOf price ⌝ }
+// A price, biased; one below every limit is 0.
+pub fn biased(price: i32) -> u32
+    ensures { λ r. ⌜ r ≡ biasedOf price ⌝ }
 {
     let s = split(price);
     if s.negative {
@@ -95,6 +96,17 @@ pub fn good_national(price: i32) -> bool
     s.size <= Quote::MOST_PRICE
 }
 
+// Price p is beyond q by more than n: above it for a buyer, below it for a seller.
+pub fn is_beyond(buy: bool, n: u64, p: u64, q: u64) -> bool
+    ensures { λ r. ⌜ r ≡ beyond buy n p q ⌝ }
+{
+    if buy {
+        n < number::less_long(p, q)
+    } else {
+        n < number::less_long(q, p)
+    }
+}
+
 fn under(below: u64) -> i64
     requires { ⌜ below < 9223372036854775808 ⌝ }
     ensures { λ r. ⌜ r ≡ negsuc below ⌝ }
@@ -102,11 +114,11 @@ fn under(below: u64) -> i64
     -1 - (below as i64)
 }
 
-// The signed cents of a price as held.
-pub fn cents(held: u64) -> i64
-    ensures { λ r. ⌜ r ≡ centsOf (min held 4611686018427387904) ⌝ }
+// The signed cents of a biased price.
+pub fn cents(biased: u64) -> i64
+    ensures { λ r. ⌜ r ≡ centsOf (min biased 4611686018427387904) ⌝ }
 {
-    let p = number::lesser_long(held, Fill::MOST_HELD);
+    let p = number::lesser_long(biased, Fill::MOST_BIASED);
     let zero = Order::MOST_CENTS as u64;
     if p < zero {
         return under(zero - 1 - p);

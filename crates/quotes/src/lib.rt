@@ -135,14 +135,7 @@ fn leg_part(words: &[u32], national: bool, ask: bool, k: usize) -> Part
     }
 }
 
-// A sum less another, not below 0.
-fn less(a: u64, b: u64) -> u64
-    ensures { λ r. ⌜ r ≡ a - b ⌝ }
-{
-    if b <= a { a - b } else { 0 }
-}
-
-// What a unit costs at national or at local prices, as held: "the sum of ratio × price over B legs less the same over S legs"; "its units are the least of size divided by ratio, rounded down".
+// What a unit costs at national or at local prices, biased: "the sum of ratio × price over B legs less the same over S legs"; "its units are the least of size divided by ratio, rounded down".
 fn priced(words: &[u32], national: bool, ask: bool) -> Derived
     requires { ⌜ WordsSized (now words) ⌝ }
     ensures { λ r. ⌜ Tells words (λ s. (r .price ≡ net (priceUsed national ask) (s .strategy .legs) (s .market)) × (r .units ≡ least ask (s .strategy .legs) (s .market))) × (r .price ≤ mostDerived) ⌝ }
@@ -167,7 +160,7 @@ fn priced(words: &[u32], national: bool, ask: bool) -> Derived
         k += 1;
     }
     Derived {
-        price: less(bought, sold),
+        price: number::less_long(bought, sold),
         units: units,
     }
 }
@@ -278,14 +271,6 @@ fn smallest_ratio(words: &[u32]) -> u32
     t
 }
 
-// Whether p is beyond q by more than n, for a buyer above it, for a seller below it.
-fn beyond(buy: bool, n: u64, p: u64, q: u64) -> bool
-    requires { ⌜ (n ≤ mostCost) × (p ≤ mostDerived) × (q ≤ mostDerived) ⌝ }
-    ensures { λ r. ⌜ r ≡ beyondOf buy n p q ⌝ }
-{
-    if buy { q + n < p } else { p + n < q }
-}
-
 // "Refuse if the limit is beyond the contra price by more than amount × smallest ratio".
 pub fn filtered(words: &[u32], buy: bool, limit: u32) -> bool
     requires { ⌜ WordsSized (now words) ⌝ }
@@ -295,7 +280,7 @@ pub fn filtered(words: &[u32], buy: bool, limit: u32) -> bool
         let contra = priced(words, true, buy);
         let amount = amount_for(words, smallest(words, buy));
         let most = times(smallest_ratio(words), amount);
-        beyond(buy, most, number::wide(limit), contra.price)
+        price::is_beyond(buy, most, number::wide(limit), contra.price)
     } else {
         false
     }

@@ -15,7 +15,7 @@ use Rattle.state.specs.Lent.{Lent}
 abbrev pub narrow : ℕ → ℕ
 narrow n = min n 4_294_967_295
 
--- the greatest price that a record gives, as held
+-- the greatest biased price that a record gives
 abbrev pub mostGiven : ℕ
 mostGiven = 4_611_686_018_427_387_904
 

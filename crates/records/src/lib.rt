@@ -12,7 +12,7 @@ use types::Rank;
 pub struct Record {}
 
 impl Record {
-    // Its numbers: number, order, rank, contra, price as held, units.
+    // Its numbers: number, order, rank, contra, biased price, units.
     pub const NUMBERS: usize = 6;
 }
 

@@ -20,6 +20,7 @@ use types::Message;
 use types::Modify;
 use types::National;
 use types::Order;
+use types::Refusal;
 use types::Response;
 
 // "First that applies, reading down": a condition and its number, and what the rows below say.
@@ -93,7 +94,7 @@ fn order_row(words: &[u32], o: Order) -> u32
     let fields = good_fields(o.side, o.id, o.participant, o.units, o.price);
     let taken = book::is_open(words, o.id);
     let counts = book::open_counts(words);
-    let far = quotes::filtered(words, o.side == Leg::B, price::offset(o.price));
+    let far = quotes::filtered(words, o.side == Leg::B, price::biased(o.price));
     let last = first(far, 33, 0);
     let under = first(Book::MOST_ORDERS <= counts.orders, 32, last);
     let below = first(taken, 31, under);
@@ -199,7 +200,7 @@ fn every_row(longs: &[u64], words: &[u32], m: Message, room: usize) -> u32
     let last = first(over, 13, 0);
     let under = first(Clock::MOST_NUMBER < longs[Clock::NEXT], 12, last);
     let below = first((Clock::MOST_TIME < m.time) | old, 11, under);
-    first(room < Fill::LEAST_ROOM, 10, below)
+    first(room < Fill::LEAST_ROOM, Refusal::SHORT_LIST, below)
 }
 
 // The number that turns a message back, given the length of its fill list; 0 for none.

@@ -3,7 +3,7 @@ pub mod TestLaws
 pub mod SeriesLaws
 pub mod ShareLaws
 pub mod TurnLaws
-pub mod PlaceLaws
+pub mod TierLaws
 pub mod SignedLaws
 pub mod BestLaws
 pub mod RecordLaws

@@ -10,24 +10,10 @@ ghost use Rattle.share.specs.Loops.{maxFrom};
 const SLOTS: usize = 1 + state::Book::MOST_ENTRIES;
 
 // How many slots a count shows.
-pub fn shown(n: usize) -> usize
+fn shown(n: usize) -> usize
     ensures { λ r. ⌜ r ≡ min n 65 ⌝ }
 {
     if n < SLOTS { n } else { SLOTS }
-}
-
-// A number in 64 bits.
-fn wide(x: u32) -> u64
-    ensures { λ r. ⌜ (r ≡ x) × (r < 4294967296) ⌝ }
-{
-    x as u64
-}
-
-// The lesser of two.
-fn lesser(a: u32, b: u32) -> u32
-    ensures { λ r. ⌜ r ≡ min a b ⌝ }
-{
-    if a < b { a } else { b }
 }
 
 // "orders by arrival": each as much as is left.
@@ -40,7 +26,7 @@ pub fn in_turn(sizes: &[u32; 65], n: usize, amount: u32, out: &mut [u32; 65])
     let mut rest = amount;
     let mut i = 0;
     while i < m {
-        let g = lesser(rest, sizes[i]);
+        let g = number::lesser(rest, sizes[i]);
         out[i] = g;
         rest -= g;
         i += 1;
@@ -55,19 +41,10 @@ fn total(sizes: &[u32; 65], n: usize) -> u64
     let mut t: u64 = 0;
     let mut i = 0;
     while i < n {
-        t += wide(sizes[i]);
+        t += number::wide(sizes[i]);
         i += 1;
     }
     t
-}
-
-// The sum of the first slots.
-pub fn given(slots: &[u32; 65], n: usize) -> u64
-    requires { ⌜ length (now slots) ≡ 65 ⌝ }
-    ensures { λ r. ⌜ r ≡ sum (take (min n 65) (now (slots .entry))) ⌝ }
-{
-    let m = shown(n);
-    total(slots, m)
 }
 
 // "amount × size ÷ total, rounded down", and the remainders.
@@ -86,7 +63,7 @@ fn rounded(
 {
     let mut i = 0;
     while i < n {
-        let x = (amount as u64) * wide(sizes[i]);
+        let x = (amount as u64) * number::wide(sizes[i]);
         out[i] = (x / all) as u32;
         rest[i] = x % all;
         i += 1;

@@ -211,8 +211,8 @@ pub struct Fill {
 }
 
 impl Fill {
-    // The greatest price as held that a record gives; no legs and no entry have one above it.
-    pub const MOST_HELD: u64 = 4_611_686_018_427_387_904;
+    // The greatest biased price that a record gives; no legs and no entry have one above it.
+    pub const MOST_BIASED: u64 = 4_611_686_018_427_387_904;
 
     // "fill list under 2,000 places".
     pub const LEAST_ROOM: usize = 2_000;
@@ -223,6 +223,17 @@ pub enum Cause {
     Time,
     Order,
     Legs,
+}
+
+// The numbers of the table that more than one function gives.
+pub struct Refusal {}
+
+impl Refusal {
+    // "10 fill list under 2,000 places".
+    pub const SHORT_LIST: u32 = 10;
+
+    // "61 any message's kind not below".
+    pub const NO_KIND: u32 = 61;
 }
 
 // "The answer to a message is one of six outcomes".

@@ -16,12 +16,12 @@ use Rattle.execution.proofs.give.Statement.{statement}
 use Rattle.execution.proofs.give.Tie as tie
 
 abbrev Inv-loop : tie.InvT-loop
-Inv-loop words list₀ at o places n k new gave₀ rank w₀ i₀ list gave w i = (i ≤ n) × (length gave ≡ 65)
-    × (take i gave ++ over k (drop i (take n places)) (drop i (take n new)) (drop i (take n gave)) ≡ over k (take n places) (take n new) (take n gave₀))
-    × ((longs units : List ℕ) → Adds list₀ at list w (fillsAt (o .number) (o .id) k (offersIn longs words (o .legs) places units i) (take i gave)))
+Inv-loop words list₀ at o tiers n k new gave₀ rank w₀ i₀ list gave w i = (i ≤ n) × (length gave ≡ 65)
+    × (take i gave ++ over k (drop i (take n tiers)) (drop i (take n new)) (drop i (take n gave)) ≡ over k (take n tiers) (take n new) (take n gave₀))
+    × ((longs units : List ℕ) → Adds list₀ at list w (fillsAt (o .number) (o .id) k (offersIn longs words (o .legs) tiers units i) (take i gave)))
 
 abbrev μ-loop : tie.MeasureT-loop
-μ-loop words list₀ at o places n k new gave₀ rank w₀ i₀ list gave w i = n - i
+μ-loop words list₀ at o tiers n k new gave₀ rank w₀ i₀ list gave w i = n - i
 
 cast-rank : tie.Need-cast-rank Inv-loop μ-loop
 cast-rank c = search needs
@@ -77,11 +77,11 @@ loop-again c =
     let i = L .loop .i in
     let v = L .loop .inv in
     let x = getD (a .new .now) i 0 in
-    let e : getD (a .places .now) i 0 ≡ a .k = sym (W .wide .ensures .0) ∙ T .if1 .taken in (
+    let e : getD (a .tiers .now) i 0 ≡ a .k = sym (W .wide .ensures .0) ∙ T .if1 .taken in (
       omega arith,
       search needs,
-      give-yes (a .n) i (a .places .now) (a .new .now) (omega arith) (omega arith) (omega arith) (a .k) (L .loop .gave) (omega (arith, v .1)) e ∙ v .2,
-      λ longs units. adds-yes (a .o) longs (a .words .now) (a .places .now) units (a .k) i (L .loop .gave) x (omega (arith, v .1)) (S .pre .0 .4 i (omega arith)) e (v .3 longs units) (P .put-slot .ensures),
+      give-yes (a .n) i (a .tiers .now) (a .new .now) (omega arith) (omega arith) (omega arith) (a .k) (L .loop .gave) (omega (arith, v .1)) e ∙ v .2,
+      λ longs units. adds-yes (a .o) longs (a .words .now) (a .tiers .now) units (a .k) i (L .loop .gave) x (omega (arith, v .1)) (S .pre .0 .4 i (omega arith)) e (v .3 longs units) (P .put-slot .ensures),
     )
 
 add-i-2 : tie.Need-add-i-2 Inv-loop μ-loop
@@ -98,11 +98,11 @@ loop-again-2 c =
     let a = S .args in
     let i = L .loop .i in
     let v = L .loop .inv in
-    let n : getD (a .places .now) i 0 ≡ a .k → ⊥ = λ e. c .if1 .left (W .wide .ensures .0 ∙ e) in (
+    let n : getD (a .tiers .now) i 0 ≡ a .k → ⊥ = λ e. c .if1 .left (W .wide .ensures .0 ∙ e) in (
       omega arith,
       v .1,
-      give-no (a .n) i (a .places .now) (a .new .now) (omega arith) (omega arith) (omega arith) (a .k) (L .loop .gave) (omega (arith, v .1)) n ∙ v .2,
-      λ longs units. adds-no (a .o) longs (a .words .now) (a .places .now) units (a .k) i (L .loop .gave) (getD (L .loop .gave) i 0) (omega (arith, v .1)) (S .pre .0 .4 i (omega arith)) refl n (v .3 longs units),
+      give-no (a .n) i (a .tiers .now) (a .new .now) (omega arith) (omega arith) (omega arith) (a .k) (L .loop .gave) (omega (arith, v .1)) n ∙ v .2,
+      λ longs units. adds-no (a .o) longs (a .words .now) (a .tiers .now) units (a .k) i (L .loop .gave) (getD (L .loop .gave) i 0) (omega (arith, v .1)) (S .pre .0 .4 i (omega arith)) refl n (v .3 longs units),
     )
 
 same-length : tie.Need-same-length Inv-loop μ-loop
@@ -116,7 +116,7 @@ returns c =
     let v = L .loop .inv in
     let z : L .loop .i ≡ a .n = omega arith in (
       v .1,
-      sym (done (a .n) (L .loop .i) (L .loop .gave) _ (omega arith) (omega arith) (over-end (a .n) (L .loop .i) (omega arith) (a .k) (a .places .now) _ _)) ∙ v .2,
+      sym (done (a .n) (L .loop .i) (L .loop .gave) _ (omega arith) (omega arith) (over-end (a .n) (L .loop .i) (omega arith) (a .k) (a .tiers .now) _ _)) ∙ v .2,
       rw (← z) (v .3),
     )
 

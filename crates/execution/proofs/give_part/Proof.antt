@@ -23,7 +23,7 @@ returns c =
     let S = D .before .before .before in
     let a = S .before .before .before .before .args in
     let e = G .give .ensures in
-    (e .0, part-is (a .k) (a .amount) (take (a .n) (a .places .now)) (take (a .n) (a .units .now)) (take (a .n) (a .gave .now)) (S .gather .ensures .1) (D .deal .ensures .1) (e .1), e .2)
+    (e .0, part-is (a .k) (a .amount) (take (a .n) (a .tiers .now)) (take (a .n) (a .units .now)) (take (a .n) (a .gave .now)) (S .gather .ensures .1) (D .deal .ensures .1) (e .1), e .2)
 
 pub give-part-spec : {M : Type 1} → statement M
 give-part-spec =

@@ -7,7 +7,7 @@ use lib.ListN.{length, take}
 use lib.Seq.{length-take-le}
 use Rattle.rules.specs.Basics.{zeros}
 use Rattle.execution.specs.Slots.{offersIn}
-use Rattle.execution.specs.Walk.{noPlace}
+use Rattle.execution.specs.Walk.{noTier}
 use Rattle.execution.proofs.NextLaws.{least-low}
 use Rattle.execution.proofs.SlotLaws.{spots-are, sizes-are, cleared}
 use Rattle.execution.proofs.GrantLaws.{Walked, walk-start, walk-end, walk-none, walk-all, walk-part}
@@ -15,11 +15,11 @@ use Rattle.execution.proofs.turn.Statement.{statement}
 use Rattle.execution.proofs.turn.Tie as tie
 
 abbrev Inv-loop : tie.InvT-loop
-Inv-loop words list₀ at o places units n gave₀ w₀ rest₀ b₀ list gave w rest b = (length gave ≡ 65) × (length list ≡ length list₀) × (b ≤ noPlace) × (rest ≤ o .units)
-    × ((longs : List ℕ) → Walked (o .number) (o .id) (o .units) b rest (offersIn longs words (o .legs) places units n) (take n gave) list₀ at list w)
+Inv-loop words list₀ at o tiers units n gave₀ w₀ rest₀ b₀ list gave w rest b = (length gave ≡ 65) × (length list ≡ length list₀) × (b ≤ noTier) × (rest ≤ o .units)
+    × ((longs : List ℕ) → Walked (o .number) (o .id) (o .units) b rest (offersIn longs words (o .legs) tiers units n) (take n gave) list₀ at list w)
 
 abbrev μ-loop : tie.MeasureT-loop
-μ-loop words list₀ at o places units n gave₀ w₀ rest₀ b₀ list gave w rest b = noPlace + 1 - b
+μ-loop words list₀ at o tiers units n gave₀ w₀ rest₀ b₀ list gave w rest b = noTier + 1 - b
 
 wide-requires : tie.Need-wide-requires Inv-loop μ-loop
 wide-requires c κs = search needs
@@ -34,8 +34,8 @@ loop-holds c =
       refl,
       omega arith,
       omega (arith, c .wide .ensures .0),
-      λ longs. rw (c .wide .ensures .0) (walk-start (a .o .number) (a .o .id) (a .o .units) (offersIn longs (a .words .now) (a .o .legs) (a .places .now) us n) (take n (a .gave .now)) (a .list .now) (a .at)
-          (cleared n (a .gave .now) (take n us) (length-take-le n us (omega arith)) (omega arith) (S .pre .2 .1) ∙ ap zeros (sym (sizes-are longs (a .words .now) (a .o .legs) (a .places .now) us n (omega arith))))),
+      λ longs. rw (c .wide .ensures .0) (walk-start (a .o .number) (a .o .id) (a .o .units) (offersIn longs (a .words .now) (a .o .legs) (a .tiers .now) us n) (take n (a .gave .now)) (a .list .now) (a .at)
+          (cleared n (a .gave .now) (take n us) (length-take-le n us (omega arith)) (omega arith) (S .pre .2 .1) ∙ ap zeros (sym (sizes-are longs (a .words .now) (a .o .legs) (a .tiers .now) us n (omega arith))))),
     )
 
 nearest-requires : tie.Need-nearest-requires Inv-loop μ-loop
@@ -58,7 +58,7 @@ returns c =
     let S = L .before .before .before .before in
     let a = S .args in
     let n = a .n in
-    let ps = a .places .now in
+    let ps = a .tiers .now in
     let us = a .units .now in
     let w = a .words .now in
     let v = L .loop .inv in
@@ -87,7 +87,7 @@ returns-2 c =
     let S = L .before .before .before .before in
     let a = S .args in
     let n = a .n in
-    let ps = a .places .now in
+    let ps = a .tiers .now in
     let us = a .units .now in
     let w = a .words .now in
     let v = L .loop .inv in
@@ -114,7 +114,7 @@ loop-less c =
     let S = L .before .before .before .before in
     let a = S .args in
     let k = N .nearest .result .number in
-    let low : L .loop .b ≤ k = least-low (L .loop .b) noPlace k (take (a .n) (a .places .now)) (take (a .n) (a .units .now)) (N .nearest .ensures .0) (L .loop .inv .2) in
+    let low : L .loop .b ≤ k = least-low (L .loop .b) noTier k (take (a .n) (a .tiers .now)) (take (a .n) (a .units .now)) (N .nearest .ensures .0) (L .loop .inv .2) in
     omega (arith, F .if1 .left)
 
 loop-again : tie.Need-loop-again Inv-loop μ-loop
@@ -127,7 +127,7 @@ loop-again c =
     let S = L .before .before .before .before in
     let a = S .args in
     let n = a .n in
-    let ps = a .places .now in
+    let ps = a .tiers .now in
     let us = a .units .now in
     let w = a .words .now in
     let v = L .loop .inv in
@@ -152,7 +152,7 @@ returns-3 c =
     let a = S .args in
     let v = L .loop .inv in (
       v .0,
-      λ longs. walk-end (a .o .number) (a .o .id) (a .o .units) (offersIn longs (a .words .now) (a .o .legs) (a .places .now) (a .units .now) (a .n)) (L .loop .b) (L .loop .rest) (take (a .n) (L .loop .gave)) (a .list .now) (a .at) (L .loop .list) (L .loop .w) (omega arith) (v .4 longs),
+      λ longs. walk-end (a .o .number) (a .o .id) (a .o .units) (offersIn longs (a .words .now) (a .o .legs) (a .tiers .now) (a .units .now) (a .n)) (L .loop .b) (L .loop .rest) (take (a .n) (L .loop .gave)) (a .list .now) (a .at) (L .loop .list) (L .loop .w) (omega arith) (v .4 longs),
     )
 
 pub turn-spec : {M : Type 1} → statement M

@@ -66,7 +66,7 @@ use Rattle.records.proofs.fill_at.Symbol.{name as #records·fill-at}
 use Rattle.records.proofs.fill_at.Met as fill-at-thm
 use Rattle.fills.specs.Fills.{written, IsApplied}
 use Rattle.fills.proofs.ListLaws.{sets-more}
-use Rattle.fills.proofs.AppliedLaws.{heldIn, held-more, held-none, held-first, count-fits, numbers-fit, is-applied}
+use Rattle.fills.proofs.AppliedLaws.{storedIn, stored-more, stored-none, stored-first, count-fits, numbers-fit, is-applied}
 use Rattle.fills.proofs.FillRow.{R, vals, tells, lawful, place-fits}
 use Rattle.fills.proofs.Locals.{p, ups, downs, bare, full, free-full}
 use Rattle.fills.proofs.Lent.{Open, Param, opens-up, closes-up, calls-lent}
@@ -217,7 +217,7 @@ module _ {M : Type 1} (𝓤 : URA M) (H : Heap 𝓤) (A : Atoms 𝓤) (W : Given
         i : ℕ
         zs : List Fill
         as-long : length zs ≡ length ys
-        comes-to : sets zs i (heldIn xs′ i (a .count)) ≡ written ys (heldIn xs′ 0 (a .count))
+        comes-to : sets zs i (storedIn xs′ i (a .count)) ≡ written ys (storedIn xs′ 0 (a .count))
 
       abbrev Nearer : Turn → Turn → Type 0
       Nearer u t = a .count - u .i < a .count - t .i
@@ -233,7 +233,7 @@ module _ {M : Type 1} (𝓤 : URA M) (H : Heap 𝓤) (A : Atoms 𝓤) (W : Given
 
       -- the first turn
       abbrev begins : Turn
-      begins = record { i = 0; zs = ys; as-long = refl; comes-to = held-first xs′ ys (a .count) in-ys }
+      begins = record { i = 0; zs = ys; as-long = refl; comes-to = stored-first xs′ ys (a .count) in-ys }
 
       -- the turn after t: f was the record at hand
       abbrev after : (t : Turn) → t .i < a .count → (f : Fill) → fillOf f ≡ recordAt xs′ (t .i) → Turn
@@ -241,7 +241,7 @@ module _ {M : Type 1} (𝓤 : URA M) (H : Heap 𝓤) (A : Atoms 𝓤) (W : Given
         i = t .i + 1;
         zs = set (t .zs) (t .i) f;
         as-long = length-set (t .zs) (t .i) f ∙ t .as-long;
-        comes-to = sets-more (t .zs) (t .i) f (heldIn xs′ (t .i + 1) (a .count)) (heldIn xs′ (t .i) (a .count)) (held-more xs′ (t .i) (a .count) f l in-xs e) ∙ t .comes-to;
+        comes-to = sets-more (t .zs) (t .i) f (storedIn xs′ (t .i + 1) (a .count)) (storedIn xs′ (t .i) (a .count)) (stored-more xs′ (t .i) (a .count) f l in-xs e) ∙ t .comes-to;
       }
 
       -- the lent numbers that the loop does not touch, and the open borrows
@@ -314,7 +314,7 @@ module _ {M : Type 1} (𝓤 : URA M) (H : Heap 𝓤) (A : Atoms 𝓤) (W : Given
           -- [the list 0, its token 1; the numbers 2, 3; the words 4, 5; the longs 6, 7; the result's 8; the locals from 9]
           returns ! (look ! 9 refl) $ move ! (ups 9 42 []) $
           free-full ! $ free-full ! $ free-full ! $ free-full ! $ free-full ! $ free-full ! $ free-full ! $ free-full ! $ free1 ! $ free1 ! $ free1 ! $ free1 ! $ free1 ! $ free1 ! $ free1 ! $ free1 ! $ free-full ! $ free1 ! $ free1 ! $ free1 ! $ free1 ! $ free0 ! $
-          by ! (exits (a .outcome) _ ls′ ws′ xs′ (t .zs) (is-applied ls ws xs ys (messageOf m) a ls′ ws′ xs′ stepped (t .zs) (t .as-long) (sym (ap (sets (t .zs) (t .i)) (held-none xs′ (t .i) (a .count) (ltb-false (t .i) (a .count) z))) ∙ t .comes-to)) (size .0) (size .1 .0) (size .1 .1 .0) (t .as-long))
+          by ! (exits (a .outcome) _ ls′ ws′ xs′ (t .zs) (is-applied ls ws xs ys (messageOf m) a ls′ ws′ xs′ stepped (t .zs) (t .as-long) (sym (ap (sets (t .zs) (t .i)) (stored-none xs′ (t .i) (a .count) (ltb-false (t .i) (a .count) z))) ∙ t .comes-to)) (size .0) (size .1 .0) (size .1 .1 .0) (t .as-long))
         where
           is-r : Is Nᵗ (a .outcome) (nvals (a .outcome))
           is-r = LL.owed K.the-type K′.the-laws a _ is-a .1 .0

@@ -14,6 +14,9 @@ meets-class-requires c κs = search needs
 derived-requires : tie.Need-derived-requires
 derived-requires c κs = search needs
 
+wide-requires : tie.Need-wide-requires
+wide-requires c κs = search needs
+
 is-beyond-requires : tie.Need-is-beyond-requires
 is-beyond-requires c κs = search needs
 
@@ -29,12 +32,13 @@ returns c = λ longs o eb ep eu.
     let N = c .before in
     let F = N .before in
     let B = F .before in
-    let D = B .before in
+    let D = B .before .before in
     let d = D .derived .ensures .0 longs in
     rw (
       N .near-live .ensures longs,
       F .in-front .ensures longs o eb ep,
       B .is-beyond .ensures,
+      B .before .wide .ensures .0,
       ap (λ (x : Derived). x .units) d,
       ap (λ (x : Derived). x .price) d,
       D .before .meets-class .ensures longs,
@@ -50,6 +54,7 @@ is-eligible-spec =
     shared-slice-read-distance
     meets-class-requires
     derived-requires
+    wide-requires
     is-beyond-requires
     in-front-requires
     near-live-requires

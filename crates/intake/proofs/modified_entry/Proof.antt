@@ -1,5 +1,5 @@
 use mathlib.Core.Path.{ap, _∙_}
-use Rattle.rules.specs.Prices.{offset}
+use Rattle.rules.specs.Prices.{biased}
 use Rattle.rules.specs.Book.{answer}
 use Rattle.state.specs.View.{flag}
 use mir.Syntax.{w32}
@@ -8,8 +8,8 @@ use borrow.Author.Needs.{needs}
 use Rattle.intake.proofs.modified_entry.Statement.{statement}
 use Rattle.intake.proofs.modified_entry.Tie as tie
 
-offset-requires : tie.Need-offset-requires
-offset-requires c κs = search needs
+biased-requires : tie.Need-biased-requires
+biased-requires c κs = search needs
 
 word-of-requires : tie.Need-word-of-requires
 word-of-requires c κs = search needs
@@ -24,11 +24,11 @@ returns c =
       participant = a .e .participant;
       buy = c .word-of .ensures i;
       customer = flag (a .e .customer);
-      price = (F .offset .ensures ∙ ap offset (toZ-ofZ {w = w32} {z = a .t .price} (search needs))) i;
+      price = (F .biased .ensures ∙ ap biased (toZ-ofZ {w = w32} {z = a .t .price} (search needs))) i;
       units = a .t .units;
       arrival = a .number;
       stage = answer;
     }
 
 pub modified-entry-spec : {M : Type 1} → statement M
-modified-entry-spec = tie.close (tie.spec offset-requires word-of-requires returns)
+modified-entry-spec = tie.close (tie.spec biased-requires word-of-requires returns)

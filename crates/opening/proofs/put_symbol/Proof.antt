@@ -27,11 +27,11 @@ add-start c = search needs
 loop-holds : tie.Need-loop-holds Inv-loop μ-loop
 loop-holds c = let a = c .before .args in (omega arith, refl, c .before .pre .1, c .before .pre .0, λ j h. absurd (omega arith), kept-all (L.symbols + 21 * a .k) (L.symbols + 21 * a .k + 21) (a .words .now))
 
-array-read-word-of : tie.Need-array-read-word-of Inv-loop μ-loop
-array-read-word-of c = search needs
+array-read-wide : tie.Need-array-read-wide Inv-loop μ-loop
+array-read-wide c = search needs
 
-word-of-requires : tie.Need-word-of-requires Inv-loop μ-loop
-word-of-requires c κs = search needs
+wide-requires : tie.Need-wide-requires Inv-loop μ-loop
+wide-requires c κs = search needs
 
 add-words : tie.Need-add-words Inv-loop μ-loop
 add-words c = search needs
@@ -56,12 +56,12 @@ loop-again c =
     let i = O .loop .i in
     let w = O .loop .words in
     let b = L.symbols + 21 * a .k in
-    let x = c .word-of .result in (
+    let x = c .wide .result in (
       omega arith,
       refl,
       v .2,
       simp length-set (v .3),
-      done-at b w i x (λ j y. y ≡ getD (a .t3) j 0) (omega arith) (c .word-of .ensures) (v .4),
+      done-at b w i x (λ j y. y ≡ getD (a .t3) j 0) (omega arith) (c .wide .ensures) (v .4),
       kept-set b (b + 21) (a .words .now) w (b + i) x (omega arith) (omega arith) (v .5),
     )
 
@@ -82,8 +82,8 @@ put-symbol-spec =
     mul-start
     add-start
     loop-holds
-    array-read-word-of
-    word-of-requires
+    array-read-wide
+    wide-requires
     add-words
     mul-words
     slice-write-words

@@ -28,8 +28,8 @@ times-requires c κs = search needs
 wide-requires : tie.Need-wide-requires
 wide-requires c κs = search needs
 
-beyond-requires : tie.Need-beyond-requires
-beyond-requires c κs = search needs
+is-beyond-requires : tie.Need-is-beyond-requires
+is-beyond-requires c κs = search needs
 
 returns : tie.Need-returns
 returns c longs =
@@ -40,7 +40,7 @@ returns c longs =
     let T = P .before in
     let a = T .before .before .before .args in
     let w = a .words .now in
-    c .beyond .ensures ∙ ap₂ (λ (n p : ℕ). beyond (a .buy) n p (P .priced .result .price)) (W .before .times .ensures .0) (W .wide .ensures .0)
+    c .is-beyond .ensures ∙ ap₂ (λ (n p : ℕ). beyond (a .buy) n p (P .priced .result .price)) (W .before .times .ensures .0) (W .wide .ensures .0)
     ∙ filtered-by (strategyOf longs w) (marketOf w) (a .buy) (a .limit) (P .priced .result .price) (A .amount-for .result) (R .smallest-ratio .result)
     (sym (T .before .all-national .ensures longs) ∙ T .if1 .taken) (P .priced .ensures .0 longs .0)
     (A .amount-for .ensures longs ∙ ap (amountFor (settingsOf longs w)) (A .before .smallest .ensures longs)) (R .smallest-ratio .ensures .0 longs)
@@ -62,6 +62,6 @@ filtered-spec =
     smallest-ratio-requires
     times-requires
     wide-requires
-    beyond-requires
+    is-beyond-requires
     returns
     returns-2)

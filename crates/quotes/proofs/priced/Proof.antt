@@ -58,8 +58,8 @@ loop-again c =
     let s = L .loop in
     (omega arith, s .inv .1, rw (c .lesser .ensures) (summed-next (a .national) (a .ask) (a .words .now) (G .leg-part .result) (s .k) (omega arith) (G .leg-part .ensures) (s .bought) (s .sold) (s .units) (s .inv .2)))
 
-less-requires : tie.Need-less-requires Inv-loop μ-loop
-less-requires c κs = search needs
+less-long-requires : tie.Need-less-long-requires Inv-loop μ-loop
+less-long-requires c κs = search needs
 
 returns-2 : tie.Need-returns-2 Inv-loop μ-loop
 returns-2 c =
@@ -68,7 +68,7 @@ returns-2 c =
     let a = S .before .args in
     let s = L .loop in
     let e = summed-all (a .national) (a .ask) (a .words .now) (s .bought) (s .sold) (s .units) (s .k) (omega arith) (λ i. omega (arith, S .shared-slice-known .given i)) (omega arith) (s .inv .2) in
-    (λ longs. (c .less .ensures ∙ e .0, e .1), omega (arith, c .less .ensures, s .inv .0, s .inv .1, s .inv .2 .most .0))
+    (λ longs. (c .less-long .ensures ∙ e .0, e .1), omega (arith, c .less-long .ensures, s .inv .0, s .inv .1, s .inv .2 .most .0))
 
 pub priced-spec : {M : Type 1} → statement M
 priced-spec =
@@ -87,5 +87,5 @@ priced-spec =
     add-k
     loop-less
     loop-again
-    less-requires
+    less-long-requires
     returns-2)

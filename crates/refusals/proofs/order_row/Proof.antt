@@ -2,7 +2,7 @@ use mathlib.Core.Path.{ap, _∙_}
 use mir.Syntax.{w32}
 use mir.Facts.{toZ-ofZ}
 use mir.Val.{SFits}
-use Rattle.rules.specs.Prices.{offset}
+use Rattle.rules.specs.Prices.{biased}
 use Rattle.rules.specs.Refusals.{goodFields}
 use borrow.Author.Needs.{needs}
 use Rattle.refusals.proofs.order_row.Statement.{statement}
@@ -20,8 +20,8 @@ is-open-requires c κs = search needs
 open-counts-requires : tie.Need-open-counts-requires
 open-counts-requires c κs = search needs
 
-offset-requires : tie.Need-offset-requires
-offset-requires c κs = search needs
+biased-requires : tie.Need-biased-requires
+biased-requires c κs = search needs
 
 filtered-requires : tie.Need-filtered-requires
 filtered-requires c κs = search needs
@@ -48,7 +48,7 @@ returns c = λ longs.
       c .before .before .first2 .ensures,
       c .before .before .before .before .first .ensures,
       c .before .before .before .before .before .filtered .ensures longs,
-      c .before .before .before .before .before .before .offset .ensures ∙ ap offset (toZ-ofZ {w = w32} {z = a .o .price} fits),
+      c .before .before .before .before .before .before .biased .ensures ∙ ap biased (toZ-ofZ {w = w32} {z = a .o .price} fits),
       c .before .before .before .before .before .before .before .before .before .open-counts .ensures longs .0,
       c .before .before .before .before .before .before .before .before .before .before .is-open .ensures longs,
       c .before .before .before .before .before .before .before .before .before .before .before .good-fields .ensures ∙ ap (goodFields (a .o .side) (a .o .id) (a .o .participant) (a .o .units)) (toZ-ofZ {w = w32} {z = a .o .price} fits),
@@ -63,7 +63,7 @@ order-row-spec =
     good-fields-requires
     is-open-requires
     open-counts-requires
-    offset-requires
+    biased-requires
     filtered-requires
     first-requires
     first-requires-2

@@ -13,12 +13,12 @@ use Rattle.execution.proofs.offers.book_interest.Statement.{statement}
 use Rattle.execution.proofs.offers.book_interest.Tie as tie
 
 abbrev Inv-loop : tie.InvT-loop
-Inv-loop words mode k places₀ units₀ m buy last i₀ places units i =
-    (i ≤ m) × (m ≡ openCount words) × (length places ≡ 65) × (length units ≡ 65) × (buy ≡ flag (getD words (L.buys + k) 0)) × (last ≡ keyOf buy (getD words (L.prices + k) 0))
-    × ((longs : List ℕ) → Stand (bookOffer (modeOf mode) longs words k) i places units)
+Inv-loop words mode k tiers₀ units₀ m buy last i₀ tiers units i =
+    (i ≤ m) × (m ≡ openCount words) × (length tiers ≡ 65) × (length units ≡ 65) × (buy ≡ flag (getD words (L.buys + k) 0)) × (last ≡ keyOf buy (getD words (L.prices + k) 0))
+    × ((longs : List ℕ) → Stand (bookOffer (modeOf mode) longs words k) i tiers units)
 
 abbrev μ-loop : tie.MeasureT-loop
-μ-loop words mode k places₀ units₀ m buy last i₀ places units i = m - i
+μ-loop words mode k tiers₀ units₀ m buy last i₀ tiers units i = m - i
 
 open-count-requires : tie.Need-open-count-requires Inv-loop μ-loop
 open-count-requires c κs = search needs
@@ -56,17 +56,17 @@ loop-holds c =
     let B = W .before .before in
     (omega arith, B .before .before .open-count .ensures, search needs, search needs, B .is-set .ensures, rw (← W .wide .ensures .0) (c .key .ensures .0), λ longs i h. absurd (omega arith))
 
-entry-place-requires : tie.Need-entry-place-requires Inv-loop μ-loop
-entry-place-requires c κs = search needs
+entry-tier-requires : tie.Need-entry-tier-requires Inv-loop μ-loop
+entry-tier-requires c κs = search needs
 
-add-places : tie.Need-add-places Inv-loop μ-loop
-add-places c = search needs
+add-tiers : tie.Need-add-tiers Inv-loop μ-loop
+add-tiers c = search needs
 
-mul-places : tie.Need-mul-places Inv-loop μ-loop
-mul-places c = search needs
+mul-tiers : tie.Need-mul-tiers Inv-loop μ-loop
+mul-tiers c = search needs
 
-element-write-places : tie.Need-element-write-places Inv-loop μ-loop
-element-write-places c = search needs
+element-write-tiers : tie.Need-element-write-tiers Inv-loop μ-loop
+element-write-tiers c = search needs
 
 entry-units-requires : tie.Need-entry-units-requires Inv-loop μ-loop
 entry-units-requires c κs = search needs
@@ -99,8 +99,8 @@ loop-again c =
       search needs,
       v .4,
       v .5,
-      λ longs. stand-next (bookOffer (modeOf (a .mode)) longs (a .words .now) (a .k)) (L .loop .i) (L .loop .places) (L .loop .units) (P .entry-place .result) (c .entry-units .result)
-          (omega (arith, v .1, v .2)) (omega (arith, v .1, v .3)) (rw (v .4) at (P .entry-place .ensures)) (rw (v .5, v .4) at (c .entry-units .ensures)) (v .6 longs),
+      λ longs. stand-next (bookOffer (modeOf (a .mode)) longs (a .words .now) (a .k)) (L .loop .i) (L .loop .tiers) (L .loop .units) (P .entry-tier .result) (c .entry-units .result)
+          (omega (arith, v .1, v .2)) (omega (arith, v .1, v .3)) (rw (v .4) at (P .entry-tier .ensures)) (rw (v .5, v .4) at (c .entry-units .ensures)) (v .6 longs),
     )
 
 returns : tie.Need-returns Inv-loop μ-loop
@@ -129,10 +129,10 @@ book-interest-spec =
     wide-requires
     key-requires
     loop-holds
-    entry-place-requires
-    add-places
-    mul-places
-    element-write-places
+    entry-tier-requires
+    add-tiers
+    mul-tiers
+    element-write-tiers
     entry-units-requires
     add-units
     mul-units

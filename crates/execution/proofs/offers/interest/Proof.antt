@@ -32,11 +32,11 @@ shared-slice-read-limit c = search needs
 book-interest-requires : tie.Need-book-interest-requires
 book-interest-requires c κs = search needs
 
-legs-place-requires : tie.Need-legs-place-requires
-legs-place-requires c κs = search needs
+legs-tier-requires : tie.Need-legs-tier-requires
+legs-tier-requires c κs = search needs
 
-element-write-places : tie.Need-element-write-places
-element-write-places c = search needs
+element-write-tiers : tie.Need-element-write-tiers
+element-write-tiers c = search needs
 
 legs-units-requires : tie.Need-legs-units-requires
 legs-units-requires c κs = search needs
@@ -59,13 +59,13 @@ returns c =
     let us = B .book-interest .last .1 .1 .1 .1 .0 in
     let e = B .book-interest .ensures in
     let book = rw (e .0) at (e .3 (a .longs .now)) in
-    let x = rw (I .is-set .ensures) at (P .legs-place .ensures) in
+    let x = rw (I .is-set .ensures) at (P .legs-tier .ensures) in
     let y = rw (I .is-set .ensures) at (c .legs-units .ensures) in (
       ap (λ (n : ℕ). n + 1) (e .0),
       search needs,
       search needs,
-      rw (e .0) (slots-ranked m (a .longs .now) (a .words .now) (a .k) (derivedOf (a .d)) (S .pre .4) ps us (P .legs-place .result) (c .legs-units .result) (omega (arith, e .1)) (omega (arith, e .2)) x y book),
-      rw (e .0) (slots-are m (a .longs .now) (a .words .now) (a .k) (derivedOf (a .d)) (S .pre .4) ps us (P .legs-place .result) (c .legs-units .result) (omega (arith, e .1)) (omega (arith, e .2)) x y book),
+      rw (e .0) (slots-ranked m (a .longs .now) (a .words .now) (a .k) (derivedOf (a .d)) (S .pre .4) ps us (P .legs-tier .result) (c .legs-units .result) (omega (arith, e .1)) (omega (arith, e .2)) x y book),
+      rw (e .0) (slots-are m (a .longs .now) (a .words .now) (a .k) (derivedOf (a .d)) (S .pre .4) ps us (P .legs-tier .result) (c .legs-units .result) (omega (arith, e .1)) (omega (arith, e .2)) x y book),
     )
 
 pub interest-spec : {M : Type 1} → statement M
@@ -80,8 +80,8 @@ interest-spec =
     mul-limit
     shared-slice-read-limit
     book-interest-requires
-    legs-place-requires
-    element-write-places
+    legs-tier-requires
+    element-write-tiers
     legs-units-requires
     element-write-units
     add-result

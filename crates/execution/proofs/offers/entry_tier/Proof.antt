@@ -1,7 +1,7 @@
 use mathlib.Core.Path.{_∙_}
 use borrow.Author.Needs.{needs}
-use Rattle.execution.proofs.offers.entry_place.Statement.{statement}
-use Rattle.execution.proofs.offers.entry_place.Tie as tie
+use Rattle.execution.proofs.offers.entry_tier.Statement.{statement}
+use Rattle.execution.proofs.offers.entry_tier.Tie as tie
 
 add-wide : tie.Need-add-wide
 add-wide c = search needs
@@ -30,14 +30,14 @@ is-set-requires c κs = search needs
 entry-rank-requires : tie.Need-entry-rank-requires
 entry-rank-requires c κs = search needs
 
-place-requires : tie.Need-place-requires
-place-requires c κs = search needs
+tier-requires : tie.Need-tier-requires
+tier-requires c κs = search needs
 
 returns : tie.Need-returns
-returns c = c .place .ensures ∙ rw (c .before .before .before .before .wide .ensures .0, c .before .entry-rank .ensures .0, c .before .before .is-set .ensures)
+returns c = c .tier .ensures ∙ rw (c .before .before .before .before .wide .ensures .0, c .before .entry-rank .ensures .0, c .before .before .is-set .ensures)
 
-pub entry-place-spec : {M : Type 1} → statement M
-entry-place-spec =
+pub entry-tier-spec : {M : Type 1} → statement M
+entry-tier-spec =
     tie.close
     (tie.spec
     add-wide
@@ -49,5 +49,5 @@ entry-place-spec =
     shared-slice-read-is-set
     is-set-requires
     entry-rank-requires
-    place-requires
+    tier-requires
     returns)
