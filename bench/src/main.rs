@@ -1,11 +1,14 @@
 //! The proved library and the second program on the same tapes: how long each takes.
 
+#[path = "../../host/tests/common/mod.rs"]
+mod common;
 mod made;
 
 use made::Case;
 use second::engine::{Engine, Outcome};
 use second::execution::{Fill, FillList};
 use second::gen::PROFILES;
+use second::message::Message;
 use second::print::{run_tape, tapeprint};
 use second::strategy::{Leg, Settings};
 use second::tape::{Record, Tape};
@@ -43,14 +46,27 @@ impl Times {
     }
 
     /// What all of the tapes take, each at its best.
-    fn sum<'a>(tracks: impl Iterator<Item = &'a Track>, rounds: fn(&Track) -> &[Times]) -> Times {
-        let best = |track: &Track| rounds(track).iter().fold(Times::NEVER, |best, round| best.with(*round, f64::min));
+    fn sum<'a>(tracks: impl Iterator<Item = &'a Track>, way: Way) -> Times {
+        let least = |best: Times, round: &Times| best.with(*round, f64::min);
+        let best = |track: &Track| track.rounds(way).iter().fold(Times::NEVER, least);
         tracks.fold(Times { proved: 0.0, plain: 0.0 }, |sum, track| sum.with(best(track), |a, b| a + b))
     }
 
     fn ratio(self) -> f64 {
         self.proved / self.plain
     }
+}
+
+/// How a tape is run: from its bytes to its lines; or without text, message by message, or record by record from their bytes.
+#[derive(Clone, Copy)]
+enum Way {
+    Print,
+    Step,
+    Record,
+}
+
+impl Way {
+    const ALL: [Way; 3] = [Way::Print, Way::Step, Way::Record];
 }
 
 /// A tape, what the second program says of it, and each engine's best time.
@@ -64,51 +80,80 @@ struct Track {
     refused: usize,
     /// Whether an auction is pending at the end.
     pending: bool,
-    /// The best of each round.
-    rounds: Vec<Times>,
-    /// The same, a record at a time without text.
-    steps: Vec<Times>,
+    /// The best of each round, for each way.
+    rounds: [Vec<Times>; Way::ALL.len()],
     script: Script,
 }
 
-/// A tape as a host sends it, a record at a time, and what it lends.
+/// A tape as a host sends it, and what it lends.
 struct Script {
-    head: Vec<u8>,
     legs: Vec<Leg>,
     settings: Settings,
-    records: Vec<u8>,
-    numbers: Box<tumghavi::FillList>,
+    messages: Vec<Message>,
     list: Vec<Fill>,
+    records: Vec<u8>,
+    proved: Proved,
+}
+
+/// The same in the library's types.
+struct Proved {
+    legs: Vec<tumghavi::Leg>,
+    settings: tumghavi::Settings,
+    messages: Vec<tumghavi::Message>,
+    list: Vec<tumghavi::Fill>,
+    records: Vec<[u8; Record::BYTES]>,
 }
 
 impl Script {
     /// A tape that is turned back has no records.
     fn of(bytes: &[u8]) -> Script {
         let tape = Tape::read(bytes).ok();
-        let head = tape.map(|tape| [tape.header_bytes(), tape.leg_bytes()].concat());
-        Script {
-            head: head.unwrap_or_default(),
-            legs: tape.map(|tape| tape.legs().collect()).unwrap_or_default(),
-            settings: tape.map(|tape| tape.header.settings).unwrap_or_default(),
-            records: tape.map(|tape| tape.record_bytes().to_vec()).unwrap_or_default(),
-            numbers: Box::new([0; 12_000]),
-            list: vec![Fill::BLANK; FillList::LEAST_PLACES],
-        }
+        let legs: Vec<Leg> = tape.map(|tape| tape.legs().collect()).unwrap_or_default();
+        let settings = tape.map(|tape| tape.header.settings).unwrap_or_default();
+        let records = tape.map(|tape| tape.record_bytes().to_vec()).unwrap_or_default();
+        let read: Vec<Record> = records.chunks_exact(Record::BYTES).map(Record::read).collect();
+        let proved = Proved {
+            legs: common::legs(&legs),
+            settings: common::settings(&settings),
+            messages: read.iter().map(common::message).collect(),
+            list: vec![tumghavi::Fill::BLANK; tumghavi::Fill::LEAST_PLACES],
+            records: records.as_chunks().0.to_vec(),
+        };
+        let messages = read.iter().filter_map(Record::message).collect();
+        Script { legs, settings, messages, list: vec![Fill::BLANK; FillList::LEAST_PLACES], records, proved }
     }
 
-    /// How many fills the library gives.
-    fn run_library(&mut self) -> usize {
-        let Ok(mut engine) = tumghavi::Engine::open(&self.head) else { return 0 };
-        let records = self.records.chunks_exact(Record::BYTES);
-        records.map(|record| engine.answer(black_box(record), &mut self.numbers)).sum()
+    /// How many fills the second program gives for the messages.
+    fn step_plain(&mut self) -> usize {
+        let Ok(mut engine) = Engine::open(&self.legs, &self.settings) else { return 0 };
+        let messages = self.messages.iter();
+        messages.map(|message| engine.apply(black_box(message), &mut self.list).fill_count()).sum()
     }
 
-    /// How many fills the second program gives.
-    fn run_plain(&mut self) -> usize {
+    /// And for the bytes of the records.
+    fn record_plain(&mut self) -> usize {
         let Ok(mut engine) = Engine::open(&self.legs, &self.settings) else { return 0 };
         let records = self.records.chunks_exact(Record::BYTES);
         let messages = records.filter_map(|record| Record::read(black_box(record)).message());
         messages.map(|message| engine.apply(&message, &mut self.list).fill_count()).sum()
+    }
+}
+
+impl Proved {
+    fn open(&self) -> Option<tumghavi::Engine> {
+        tumghavi::Engine::open(&tumghavi::Opening { legs: &self.legs, settings: self.settings }).ok()
+    }
+
+    /// How many fills the library gives for the messages.
+    fn step(&mut self) -> usize {
+        let Some(mut engine) = self.open() else { return 0 };
+        self.messages.iter().map(|message| engine.step(black_box(message), &mut self.list).fills()).sum()
+    }
+
+    /// And for the bytes of the records.
+    fn record(&mut self) -> usize {
+        let Some(mut engine) = self.open() else { return 0 };
+        self.records.iter().map(|record| engine.record(black_box(record), &mut self.list).fills()).sum()
     }
 }
 
@@ -123,50 +168,58 @@ impl Track {
         });
         let pending = end.is_ok_and(|engine| engine.auction().is_some());
         let out = vec![0; expected.len() + 1];
-        let (rounds, steps, script) = (Vec::new(), Vec::new(), Script::of(&tape));
-        Track { tape, expected, out, messages, fills, refused, pending, rounds, steps, script }
+        let (rounds, script) = (Way::ALL.map(|_| Vec::new()), Script::of(&tape));
+        Track { tape, expected, out, messages, fills, refused, pending, rounds, script }
     }
 
-    fn run_library(&mut self) -> usize {
-        tumghavi::run_tape(black_box(&self.tape), &mut self.out)
+    fn rounds(&self, way: Way) -> &[Times] {
+        &self.rounds[way as usize]
+    }
+
+    /// The bytes that the library writes, or how many fills it gives.
+    fn run_proved(&mut self, way: Way) -> usize {
+        match way {
+            Way::Print => tumghavi::print_into(black_box(&self.tape), &mut self.out),
+            Way::Step => self.script.proved.step(),
+            Way::Record => self.script.proved.record(),
+        }
+    }
+
+    /// The second program's.
+    fn run_plain(&mut self, way: Way) -> usize {
+        match way {
+            Way::Print => tapeprint(black_box(&self.tape)).len(),
+            Way::Step => self.script.step_plain(),
+            Way::Record => self.script.record_plain(),
+        }
     }
 
     fn agrees(&mut self) -> bool {
-        let written = self.run_library();
+        let written = self.run_proved(Way::Print);
         let same = &self.out[..written] == self.expected.as_bytes();
-        same && [self.script.run_library(), self.script.run_plain()] == [self.fills; 2]
-    }
-
-    fn time_proved(&mut self, round: usize) {
-        let tape = elapsed(|| black_box(self.run_library()));
-        self.rounds[round].proved = tape.min(self.rounds[round].proved);
-        let steps = elapsed(|| black_box(self.script.run_library()));
-        self.steps[round].proved = steps.min(self.steps[round].proved);
-    }
-
-    fn time_plain(&mut self, round: usize) {
-        let tape = elapsed(|| black_box(tapeprint(black_box(&self.tape))).len());
-        self.rounds[round].plain = tape.min(self.rounds[round].plain);
-        let steps = elapsed(|| black_box(self.script.run_plain()));
-        self.steps[round].plain = steps.min(self.steps[round].plain);
+        same && Way::ALL.iter().all(|&way| self.run_proved(way) == self.run_plain(way))
     }
 }
 
-/// How many nanoseconds something takes.
-fn elapsed(run: impl FnOnce() -> usize) -> f64 {
+/// How many nanoseconds something takes, where that is less than before.
+fn least(before: &mut f64, run: impl FnOnce() -> usize) {
     let start = Instant::now();
     black_box(run());
-    start.elapsed().as_nanos() as f64
+    *before = before.min(start.elapsed().as_nanos() as f64);
 }
 
-/// One engine on all of the tapes, then the other: one tape again and again is what a processor learns by heart.
-fn time(tracks: &mut [Track], round: usize) {
-    for track in tracks.iter_mut() {
-        track.rounds.push(Times::NEVER);
-        track.steps.push(Times::NEVER);
+/// In each way one engine on all of the tapes, then the other: one tape again and again is what a processor learns by heart.
+fn time(tracks: &mut [Track], way: Way) {
+    let mut best = vec![Times::NEVER; tracks.len()];
+    for _ in 0..RUNS {
+        let each = tracks.iter_mut().zip(&mut best);
+        each.for_each(|(track, best)| least(&mut best.proved, || track.run_proved(way)));
     }
-    (0..RUNS).for_each(|_| tracks.iter_mut().for_each(|track| track.time_proved(round)));
-    (0..RUNS).for_each(|_| tracks.iter_mut().for_each(|track| track.time_plain(round)));
+    for _ in 0..RUNS {
+        let each = tracks.iter_mut().zip(&mut best);
+        each.for_each(|(track, best)| least(&mut best.plain, || track.run_plain(way)));
+    }
+    tracks.iter_mut().zip(best).for_each(|(track, best)| track.rounds[way as usize].push(best));
 }
 
 /// Runs something further down the stack: where it stands matters to the library's copies, so each round has it elsewhere.
@@ -208,7 +261,7 @@ impl Pair {
 
     /// How much longer the second tape takes in one round: the median of the fastest quarter of the rounds.
     fn difference(&self, engine: fn(&Times) -> f64) -> f64 {
-        let [without, with] = self.tracks.each_ref().map(|track| track.rounds.iter().map(engine));
+        let [without, with] = self.tracks.each_ref().map(|track| track.rounds(Way::Print).iter().map(engine));
         let mut rounds: Vec<(f64, f64)> = with.zip(without).map(|(a, b)| (a + b, a - b)).collect();
         rounds.sort_by(|a, b| a.0.total_cmp(&b.0));
         rounds.truncate(rounds.len().div_ceil(4));
@@ -263,35 +316,35 @@ impl Bench {
     fn print(&self) {
         let (turned_back, others): (Vec<&Group>, Vec<&Group>) = self.groups.iter().partition(|g| g.turned_back());
         println!("## By profile\n");
-        print_profiles(&others, |track| &track.rounds);
+        print_profiles(&others, Way::Print);
         println!("\nTapes of which most are turned back before their first message:\n");
         println!("| Profile | Tapes | Proved, ns a tape | Plain, ns a tape | Ratio |\n|---|--:|--:|--:|--:|");
         for Group { name, tracks } in turned_back {
-            let times = Times::sum(tracks.iter(), |track| &track.rounds).per(tracks.len());
+            let times = Times::sum(tracks.iter(), Way::Print).per(tracks.len());
             let Times { proved, plain } = times;
             println!("| {name} | {} | {proved:.0} | {plain:.0} | {:.1} |", tracks.len(), times.ratio());
         }
-        println!("\n## A record at a time, without text\n");
-        print_profiles(&others, |track| &track.steps);
+        println!("\n## A message at a time, without text\n");
+        print_profiles(&others, Way::Step);
+        println!("\n## A record at a time, from its bytes\n");
+        print_profiles(&others, Way::Record);
         self.pairs.chunk_by(|a, b| a.case.table == b.case.table).for_each(print_pairs);
     }
 }
 
-fn print_profiles(groups: &[&Group], rounds: fn(&Track) -> &[Times]) {
-    println!("| Profile | Messages | Fills | Proved, messages/s | Plain, messages/s | Proved, ns | Plain, ns | Ratio |");
+fn print_profiles(groups: &[&Group], way: Way) {
+    println!(
+        "| Profile | Messages | Fills | Proved, messages/s | Plain, messages/s | Proved, ns | Plain, ns | Ratio |"
+    );
     println!("|---|--:|--:|--:|--:|--:|--:|--:|");
-    groups.iter().for_each(|group| print_profile(group.name, group.tracks.iter(), rounds));
-    print_profile("all of these", groups.iter().flat_map(|group| &group.tracks), rounds);
+    groups.iter().for_each(|group| print_profile(group.name, group.tracks.iter(), way));
+    print_profile("all of these", groups.iter().flat_map(|group| &group.tracks), way);
 }
 
-fn print_profile<'a>(
-    name: &str,
-    tracks: impl Iterator<Item = &'a Track> + Clone,
-    rounds: fn(&Track) -> &[Times],
-) {
+fn print_profile<'a>(name: &str, tracks: impl Iterator<Item = &'a Track> + Clone, way: Way) {
     let messages = tracks.clone().map(|track| track.messages).sum();
     let fills: usize = tracks.clone().map(|track| track.fills).sum();
-    let times = Times::sum(tracks, rounds).per(messages);
+    let times = Times::sum(tracks, way).per(messages);
     let Times { proved, plain } = times;
     let speeds = format!("{:.0} | {:.0}", 1e9 / proved, 1e9 / plain);
     println!("| {name} | {messages} | {fills} | {speeds} | {proved:.0} | {plain:.0} | {:.1} |", times.ratio());
@@ -330,7 +383,7 @@ fn run_alone(name: &str, times: usize) -> Result<usize, String> {
     let mut tracks: Vec<Track> = SEEDS.map(|seed| Track::new(profile.tape(seed))).collect();
     for _ in 0..times {
         tracks.iter_mut().for_each(|track| {
-            black_box(track.run_library());
+            black_box(track.run_proved(Way::Print));
         });
     }
     Ok(times * tracks.iter().map(|track| track.messages).sum::<usize>())
@@ -353,7 +406,7 @@ fn run(arguments: &[&str]) -> Result<(), String> {
     };
     let mut bench = Bench::checked()?;
     for round in 0..rounds {
-        deeper(round, &mut || bench.tracks().for_each(|tracks| time(tracks, round)));
+        deeper(round, &mut || bench.tracks().for_each(|tracks| Way::ALL.iter().for_each(|&way| time(tracks, way))));
     }
     bench.print();
     Ok(())

@@ -1,4 +1,11 @@
-/* The proved auction engine for hosts in C. Link libhost.a, which `rt staticlib host` writes to target/staticlib. */
+/*
+ * The proved auction engine for hosts in C and C++. Link libtumghavi.a, which `rt staticlib tumghavi` writes to target/staticlib.
+ *
+ * A host keeps a copy of the engine in a tumghavi_copy of its own, opens it once, and has each message answered in place.
+ * Every value of every field is answered: a wrong one is refused with a number of docs/NUMBERS.md, and a refused message
+ * changes nothing. What C cannot check is left to the host: no pointer may be null, each must lead to as much as its type
+ * and count say, and what is lent to one call must not overlap. Calls on different copies may run at the same time.
+ */
 #ifndef TUMGHAVI_H
 #define TUMGHAVI_H
 
@@ -9,26 +16,217 @@
 extern "C" {
 #endif
 
+/* A copy: all of its state, to be assigned, compared and kept as it is, or saved as bytes. */
+typedef struct tumghavi_copy {
+    uint64_t longs[70];
+    uint32_t words[580];
+} tumghavi_copy;
+
+/* The bytes of a saved copy. */
+#define TUMGHAVI_COPY_SIZE 2880
+
+/* ---- an opening */
+
+/* Symbol: root padded to 6, yymmdd, C or P, strike in 8 digits. Side: 'B' or 'S', as seen by a buyer of the strategy. */
+typedef struct tumghavi_leg {
+    uint8_t symbol[21];
+    uint8_t side;
+    uint8_t ratio;
+    uint8_t mpv;
+} tumghavi_leg;
+
+/* The legs in use are the first leg_count; the amounts of the filter are those for an mpv of 1, 5 and 10. */
+typedef struct tumghavi_opening {
+    tumghavi_leg legs[4];
+    size_t leg_count;
+    uint64_t first_number;
+    uint64_t opening_time;
+    uint32_t minimum;
+    uint16_t interval;
+    uint16_t distance;
+    uint16_t most_legs;
+    uint16_t amounts[3];
+} tumghavi_opening;
+
+/* ---- a message */
+
+enum {
+    TUMGHAVI_LOCAL = 1,
+    TUMGHAVI_NATIONAL = 2,
+    TUMGHAVI_ORDER = 3,
+    TUMGHAVI_RESPONSE = 4,
+    TUMGHAVI_MODIFY = 5,
+    TUMGHAVI_CANCEL = 6,
+    TUMGHAVI_CLOCK = 7
+};
+
+enum { TUMGHAVI_BUY = 'B', TUMGHAVI_SELL = 'S' };
+
+enum { TUMGHAVI_CUSTOMER = 1, TUMGHAVI_OTHER = 2 };
+
+/* Fields that its kind does not use are ignored. units and price are a quote's bid size and bid; prices are in cents. */
+typedef struct tumghavi_message {
+    uint8_t kind;
+    uint8_t side;
+    uint8_t account;
+    uint8_t wish_or_leg;
+    uint32_t id;
+    uint32_t participant;
+    uint32_t units;
+    int32_t price;
+    int32_t ask;
+    uint32_t ask_size;
+    uint64_t time;
+} tumghavi_message;
+
+/* The bytes of a message record, as a tape has it. */
+#define TUMGHAVI_RECORD_SIZE 36
+
+/* ---- the answer */
+
+/* The kinds of outcomes. */
+enum {
+    TUMGHAVI_NOTED = 1,
+    TUMGHAVI_PLACED = 2,
+    TUMGHAVI_BEGUN = 3,
+    TUMGHAVI_JOINED = 4,
+    TUMGHAVI_ENDED = 5,
+    TUMGHAVI_REFUSED = 6
+};
+
+/* The causes of an end. */
+enum { TUMGHAVI_BY_TIME = 1, TUMGHAVI_BY_ORDER = 2, TUMGHAVI_BY_LEGS = 3 };
+
+/*
+ * An outcome. What it does not have is 0: cause is an end's, number a refusal's, deadline that of an auction begun; units are
+ * those open of an order placed, or those in the queue that was joined; fills are of one noted, placed or ended.
+ */
+typedef struct tumghavi_outcome {
+    uint32_t kind;
+    uint32_t cause;
+    uint32_t number;
+    uint32_t fills;
+    uint64_t units;
+    uint64_t deadline;
+} tumghavi_outcome;
+
+/* A fill record; rank, contra and price are read by the functions below. */
+typedef struct tumghavi_fill {
+    uint64_t number;
+    uint64_t order;
+    uint64_t rank;
+    uint64_t contra;
+    uint64_t price;
+    uint64_t units;
+} tumghavi_fill;
+
+/* The places that a fill list must have: no message has more records. */
+#define TUMGHAVI_LEAST_PLACES 2000
+
+/* How many orders and responses are open. */
+typedef struct tumghavi_open_counts {
+    size_t orders;
+    size_t responses;
+} tumghavi_open_counts;
+
+/* ---- the library's own functions, over the parts of a copy and the numbers of a fill list */
+
+uint32_t tumghavi_open_in(uint64_t *longs, uint32_t *words, tumghavi_opening opening);
+tumghavi_outcome tumghavi_step_in(uint64_t *longs, uint32_t *words, uint64_t *list, size_t numbers, tumghavi_message message);
+tumghavi_outcome tumghavi_record_in(uint64_t *longs, uint32_t *words, uint64_t *list, size_t numbers, const uint8_t *bytes, size_t size);
+tumghavi_open_counts tumghavi_counts_in(const uint32_t *words);
+
 /*
  * The bytes that tapeprint prints for a tape: as many as out has room for, from its start on; what stands behind them is as it was.
- * Returns how many were written. Where that is out_size there may be more: call again with more room.
- * Any bytes are a tape: one that is damaged or refused prints the line that says so. tape and out must not overlap; either may be
- * empty, but no pointer may be null.
+ * Returns how many were written. Where that is out_size there may be more: call again with more room. Any bytes are a tape.
  */
-size_t run_tape(const uint8_t *tape, size_t tape_size, uint8_t *out, size_t out_size);
+size_t tumghavi_print(const uint8_t *tape, size_t tape_size, uint8_t *out, size_t out_size);
+
+/* ---- a copy */
 
 /*
- * A copy of the engine is two arrays of numbers, which the host keeps. Opens a header and the legs right behind it, as a tape has
- * them: 0, and the arrays hold the copy, whatever they held; or the number that refuses it, and they are as they were.
+ * Opens a copy: 0, and it holds the state of the opening and nothing of what it held; or the number that refuses it, and it is as
+ * it was. The library itself leaves numbers that are not in use as they were, so zeros are lent to it here: a new copy need not be
+ * cleared, and two that are opened and sent the same are the same, number for number.
  */
-uint32_t open_copy(uint64_t longs[70], uint32_t words[580], const uint8_t *head, size_t head_size);
+static inline uint32_t tumghavi_open(tumghavi_copy *copy, const tumghavi_opening *opening)
+{
+    tumghavi_copy opened = {{0}, {0}};
+    const uint32_t number = tumghavi_open_in(opened.longs, opened.words, *opening);
+    if (number == 0)
+        *copy = opened;
+    return number;
+}
 
 /*
- * Answers a message record of 36 bytes in a copy. Its fill records stand at the start of list, six numbers each: number, order,
- * rank (0 to 4 for L, C, N, T, R), contra (0 the legs, else the id and 1), price (cents and 40,000,000), units. What stands behind
- * them is as it was; under a refusal all three arrays are. Returns how many records there are. The arrays must not overlap.
+ * Answers a message. Its fill records stand at the start of fills, as many as the outcome counts; what stands behind them is as
+ * it was. Under a refusal the copy and the fills are as they were. Fewer than TUMGHAVI_LEAST_PLACES places are refused with 10.
  */
-size_t answer_record(uint64_t longs[70], uint32_t words[580], uint64_t list[12000], const uint8_t *record, size_t record_size);
+static inline tumghavi_outcome tumghavi_step(tumghavi_copy *copy, const tumghavi_message *message, tumghavi_fill *fills, size_t places)
+{
+    return tumghavi_step_in(copy->longs, copy->words, &fills->number, places * 6, *message);
+}
+
+/* The same from a message record's bytes. Bytes that are not TUMGHAVI_RECORD_SIZE are no record and are refused with 61. */
+static inline tumghavi_outcome tumghavi_record(tumghavi_copy *copy, const uint8_t *bytes, size_t size, tumghavi_fill *fills, size_t places)
+{
+    return tumghavi_record_in(copy->longs, copy->words, &fills->number, places * 6, bytes, size);
+}
+
+/* How many orders and responses are open in a copy. */
+static inline tumghavi_open_counts tumghavi_counts(const tumghavi_copy *copy)
+{
+    return tumghavi_counts_in(copy->words);
+}
+
+/* ---- a fill */
+
+/* Its net price in cents. */
+static inline int64_t tumghavi_fill_price(const tumghavi_fill *fill)
+{
+    return (int64_t)fill->price - 40000000;
+}
+
+/* Its rank's letter: L legs, C customer, N not a customer, T late legs, R by arrival. */
+static inline char tumghavi_fill_rank(const tumghavi_fill *fill)
+{
+    return fill->rank < 4 ? "LCNT"[fill->rank] : 'R';
+}
+
+/* Whether its other side is the legs. */
+static inline int tumghavi_fill_is_legs(const tumghavi_fill *fill)
+{
+    return fill->contra == 0;
+}
+
+/* The id of its other side, 0 for the legs. */
+static inline uint32_t tumghavi_fill_contra(const tumghavi_fill *fill)
+{
+    return fill->contra == 0 ? 0 : (uint32_t)(fill->contra - 1);
+}
+
+/* ---- a copy as bytes, little-endian, on any machine */
+
+static inline void tumghavi_save(const tumghavi_copy *copy, uint8_t *bytes)
+{
+    size_t i;
+    for (i = 0; i < 560; i++)
+        bytes[i] = (uint8_t)(copy->longs[i / 8] >> 8 * (i % 8));
+    for (i = 0; i < 2320; i++)
+        bytes[560 + i] = (uint8_t)(copy->words[i / 4] >> 8 * (i % 4));
+}
+
+/* Any bytes are answered for, but only saved ones are a copy that messages have led to. */
+static inline void tumghavi_load(tumghavi_copy *copy, const uint8_t *bytes)
+{
+    const tumghavi_copy none = {{0}, {0}};
+    size_t i;
+    *copy = none;
+    for (i = 0; i < 560; i++)
+        copy->longs[i / 8] |= (uint64_t)bytes[i] << 8 * (i % 8);
+    for (i = 0; i < 2320; i++)
+        copy->words[i / 4] |= (uint32_t)bytes[560 + i] << 8 * (i % 4);
+}
 
 #ifdef __cplusplus
 }

@@ -1,65 +1,89 @@
-//! The proved auction engine for hosts in Rust: a tape in, tapeprint's output out, or one record after another.
+//! The proved auction engine for hosts in Rust: a copy of the engine held in the host's own memory and changed in place.
+//!
+//! [`Engine::open`] opens a strategy, [`Engine::step`] answers a message, with its fill records in a list that the host
+//! lends, and [`Engine::record`] does so from the 36 bytes of a message record. Every value of every field is answered:
+//! a wrong one is refused with a number ([`Refusal`]), and a refused message changes nothing. Nothing here panics.
+//!
+//! The own case of document 01: ten units of a seller of fifteen go to the legs, and five to the buyer who rests.
+//!
+//! ```
+//! use tumghavi::{Account, Cause, Contra, Engine, Fill, Leg, Message, Opening, Outcome, Rank, Settings, Side};
+//!
+//! let leg = |symbol, side| Leg { symbol, side, ratio: 1, mpv: 5 };
+//! let legs = [leg(*b"XYZ   260116C00020000", Side::BUY), leg(*b"XYZ   260116C00025000", Side::SELL)];
+//! let settings = Settings {
+//!     first_number: 1,
+//!     opening_time: 0,
+//!     minimum: 1,
+//!     interval: 500,
+//!     distance: 0,
+//!     most_legs: 4,
+//!     amounts: [10, 15, 30],
+//! };
+//! let mut engine = Engine::open(&Opening { legs: &legs, settings })?;
+//!
+//! let quote = |leg, bid, ask| Message::Local { time: 0, leg, bid, bid_size: 10, ask, ask_size: 10 };
+//! let order = |id, participant, side, units| Message::Order {
+//!     time: 0,
+//!     side,
+//!     account: Account::CUSTOMER,
+//!     wish: false,
+//!     id,
+//!     participant,
+//!     units,
+//!     price: 100,
+//! };
+//! let mut fills = vec![Fill::BLANK; Fill::LEAST_PLACES];
+//! assert_eq!(engine.step(&quote(0, 220, 240), &mut fills), Outcome::Noted { fills: 0 });
+//! assert_eq!(engine.step(&quote(1, 110, 120), &mut fills), Outcome::Noted { fills: 0 });
+//! assert_eq!(engine.step(&order(7, 1, Side::BUY, 10), &mut fills), Outcome::Placed { units: 10, fills: 0 });
+//!
+//! let outcome = engine.step(&order(8, 2, Side::SELL, 15), &mut fills);
+//! assert_eq!(outcome, Outcome::Placed { units: 0, fills: 2 });
+//! assert_eq!(fills[0].to_string(), "4 8 L 0 100 10");
+//! assert_eq!(fills[1].to_string(), "4 8 R 7 100 5");
+//! assert_eq!((fills[1].rank(), fills[1].contra(), fills[1].units()), (Rank::R, Contra::Entry(7), 5));
+//!
+//! let cancel = Message::Cancel { time: 0, id: 9, participant: 1 };
+//! let Outcome::Refused(refusal) = engine.step(&cancel, &mut fills) else { panic!() };
+//! assert_eq!(refusal.to_string(), "50: no open order has that id and participant");
+//! assert_eq!((engine.open_orders(), engine.open_responses()), (1, 0));
+//! # Ok::<(), tumghavi::Refusal>(())
+//! ```
 
-mod library {
-    extern "C" {
-        pub fn run_tape(tape: *const u8, tape_size: usize, out: *mut u8, out_size: usize) -> usize;
-        pub fn open_copy(longs: *mut [u64; 70], words: *mut [u32; 580], head: *const u8, head_size: usize) -> u32;
-        pub fn answer_record(
-            longs: *mut [u64; 70],
-            words: *mut [u32; 580],
-            list: *mut [u64; 12_000],
-            record: *const u8,
-            record_size: usize,
-        ) -> usize;
-    }
-}
+#![deny(unsafe_code, missing_docs)]
+#![forbid(unsafe_op_in_unsafe_fn, unused_must_use)]
 
-/// The bytes that tapeprint prints for a tape, as many as `out` has room for, and how many they are.
-/// What stands behind them in `out` is as it was. Any bytes are a tape.
-pub fn run_tape(tape: &[u8], out: &mut [u8]) -> usize {
-    // SAFETY: both slices are valid for their lengths and do not overlap, and the library is proved to stay inside them.
-    unsafe { library::run_tape(tape.as_ptr(), tape.len(), out.as_mut_ptr(), out.len()) }
+mod engine;
+mod fill;
+#[allow(unsafe_code)]
+mod library;
+mod message;
+mod opening;
+mod outcome;
+
+pub use engine::Engine;
+pub use fill::{Contra, Fill, Rank};
+pub use message::{Account, Message, Record, Side};
+pub use opening::{Leg, Opening, Settings};
+pub use outcome::{Cause, Outcome, Refusal};
+
+/// The bytes that tapeprint prints for a tape, as many as `out` has room for, from its start on, and how many they are.
+/// What stands behind them in `out` is as it was. Any bytes are a tape: one that is damaged or refused prints the line that says so.
+pub fn print_into(tape: &[u8], out: &mut [u8]) -> usize {
+    library::print(tape, out)
 }
 
 /// All that tapeprint prints for a tape.
-pub fn tapeprint(tape: &[u8]) -> Vec<u8> {
+pub fn print(tape: &[u8]) -> Vec<u8> {
     let mut out = vec![0; 4096];
     loop {
-        let written = run_tape(tape, &mut out);
+        let written = print_into(tape, &mut out);
         if written < out.len() {
             out.truncate(written);
             return out;
         }
         let room = out.len() * 4;
         out.resize(room, 0);
-    }
-}
-
-/// A copy of the engine: its state. Everything in it is changed in place.
-pub struct Engine {
-    longs: [u64; 70],
-    words: [u32; 580],
-}
-
-/// The list that a message's fill records are written into: 2,000 places of six numbers.
-pub type FillList = [u64; 12_000];
-
-impl Engine {
-    /// Opens a header and the legs right behind it, or gives the number that refuses them.
-    pub fn open(head: &[u8]) -> Result<Engine, u32> {
-        let mut engine = Engine { longs: [0; 70], words: [0; 580] };
-        // SAFETY: the arrays and the slice are valid and apart, and the library is proved to stay inside them.
-        let number =
-            unsafe { library::open_copy(&mut engine.longs, &mut engine.words, head.as_ptr(), head.len()) };
-        match number {
-            0 => Ok(engine),
-            _ => Err(number),
-        }
-    }
-
-    /// Answers a message record of 36 bytes: how many fill records it has. They stand at the start of the list, and what stands behind them is as it was.
-    pub fn answer(&mut self, record: &[u8], list: &mut FillList) -> usize {
-        // SAFETY: as above.
-        unsafe { library::answer_record(&mut self.longs, &mut self.words, list, record.as_ptr(), record.len()) }
     }
 }

@@ -228,7 +228,8 @@ pub fn standing_of(words: &[u32], id: u32, participant: u32) -> Standing
 
 // ---- how many, how much
 
-// How many orders and how many responses are open.
+// How many orders and how many responses are open, as hosts are told.
+#[repr(C)]
 pub struct Counts {
     pub orders: usize,
     pub responses: usize,

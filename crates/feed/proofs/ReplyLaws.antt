@@ -5,13 +5,12 @@ use mathlib.Core.List.{List, [], _++_}
 use Prim.Native.Nat.{ℕ, zero, suc, _+_, _-_, _*_, _/_, _≤_, _<_}
 use native.Mathlib.Omega.{arith}
 use borrow.Author.Tests.{ne-eqb, lt-ltb}
-use lib.ListN.{length, getD}
+use lib.ListN.{length}
 use Rattle.rules.specs.Outcome.{Outcome, Refused}
-use Rattle.rules.specs.Refusals.{leastRoom}
 use Rattle.rules.specs.Messages.{Message}
 use Rattle.rules.specs.Turn.{Fill}
 use Rattle.rules.specs.Print.{fillLine}
-use Rattle.rules.specs.Tape.{isKind, messageOf}
+use Rattle.rules.specs.Tape.{Fields, isKind, messageFrom}
 use Rattle.types.specs.View.{upto, from, outcomeOf}
 use Rattle.types.proofs.TableLaws.{from-cons, from-end}
 use Rattle.records.specs.Records.{width, recordIn, recordAt}
@@ -20,7 +19,7 @@ use Rattle.engine.specs.Steps.{recordsIn, IsStep}
 use Rattle.text.specs.Text.{lineText}
 use Rattle.text.specs.Answers.{outcomeText}
 use Rattle.text.specs.Places.{Put}
-use Rattle.feed.specs.Replies.{answerTo, fillsText, lineOf, joined, IsAnswer}
+use Rattle.feed.specs.Replies.{answerOf, fillsText, lineOf, joined, IsAnswer}
 
 -- ---- lines
 
@@ -51,11 +50,11 @@ lines-text list o n h =
 
 -- ---- answers
 
-module _ (longs words list p : List ℕ) (r : Answer) where
-  pub known-answer : (m : Message) (longs′ words′ list′ : List ℕ) → isKind (getD p 0 0) ≡ true → m ≡ messageOf p → IsStep longs words list m leastRoom longs′ words′ list′ r → IsAnswer longs words list p longs′ words′ list′ r
-  unfolding answerTo
+module _ (longs words list : List ℕ) (f : Fields) (room : ℕ) (r : Answer) where
+  pub known-answer : (m : Message) (longs′ words′ list′ : List ℕ) → isKind (f .kind) ≡ true → m ≡ messageFrom f → IsStep longs words list m room longs′ words′ list′ r → IsAnswer longs words list f room longs′ words′ list′ r
+  unfolding answerOf
   known-answer m longs′ words′ list′ k e a =
-      let a′ : IsStep longs words list (messageOf p) leastRoom longs′ words′ list′ r = subst (λ (x : Message). IsStep longs words list x leastRoom longs′ words′ list′ r) e a in
+      let a′ : IsStep longs words list (messageFrom f) room longs′ words′ list′ r = subst (λ (x : Message). IsStep longs words list x room longs′ words′ list′ r) e a in
       let inside : r .count * width ≤ length list′ = omega (arith, a′ .sized .2, a′ .inside .1) in
       record {
         state = rw k (a′ .state);
@@ -69,8 +68,8 @@ module _ (longs words list p : List ℕ) (r : Answer) where
         refused = λ h. a′ .refused (rw k at h);
       }
 
-  pub unknown-answer : isKind (getD p 0 0) ≡ false → r .count ≡ 0 → outcomeOf (r .outcome) ≡ Refused 61 → IsAnswer longs words list p longs words list r
-  unfolding answerTo
+  pub unknown-answer : isKind (f .kind) ≡ false → r .count ≡ 0 → outcomeOf (r .outcome) ≡ Refused 61 → IsAnswer longs words list f room longs words list r
+  unfolding answerOf
   unknown-answer k c o =
       let none : recordsIn list (r .count) ≡ [] = rw c (from-end (recordIn list) 0 0 (omega arith)) in
       let inside : r .count * width ≤ length list = omega arith in
@@ -85,3 +84,7 @@ module _ (longs words list p : List ℕ) (r : Answer) where
         inside = (omega arith, inside);
         refused = λ h. (refl, refl, refl);
       }
+
+-- of equal fields
+pub same-answer : (longs words list : List ℕ) (f g : Fields) (room : ℕ) (longs′ words′ list′ : List ℕ) (r : Answer) → f ≡ g → IsAnswer longs words list f room longs′ words′ list′ r → IsAnswer longs words list g room longs′ words′ list′ r
+same-answer longs words list f g room longs′ words′ list′ r e a = subst (λ (x : Fields). IsAnswer longs words list x room longs′ words′ list′ r) e a

@@ -7,7 +7,7 @@ use lib.ListN.{length}
 use denote.Ref.{now}
 use Rattle.rules.specs.State.{State}
 use Rattle.rules.specs.Refusals.{leastRoom}
-use Rattle.rules.specs.Tape.{headerBytes, messageBytes}
+use Rattle.rules.specs.Tape.{headerBytes, messageBytes, fieldsOf}
 use Rattle.rules.specs.Run.{refusedOpening, started, opening}
 use Rattle.state.specs.Layout.{Sized}
 use Rattle.state.specs.View.{stateOf}
@@ -33,12 +33,12 @@ Records (p ∷ ps) = (length p ≡ messageBytes) × Records ps
 -- a record answered: the state is that of the answer, and under a refusal every number is as it was
 pub record IsAnswered (longs words list longs′ words′ list′ p : List ℕ) : Type 0 where
   pub state : stateOf longs′ words′ ≡ answerTo (stateOf longs words) p leastRoom .state
-  pub refused : 0 < numberIn longs words list p → (longs′ ≡ longs) × (words′ ≡ words) × (list′ ≡ list)
+  pub refused : 0 < numberIn longs words list (fieldsOf p) leastRoom → (longs′ ≡ longs) × (words′ ≡ words) × (list′ ≡ list)
 
 -- a turn: the record that stands in the bytes is answered, and a refused one leaves every number as it was; or nothing has changed
 pub record IsTurn (longs words list longs′ words′ list′ p : List ℕ) (r : Pause) : Type 0 where
   pub answered : r .answered ≡ true → (length p ≡ messageBytes) × (stateOf longs′ words′ ≡ answerTo (stateOf longs words) p leastRoom .state)
-  pub refused : r .answered ≡ true → 0 < numberIn longs words list p → (longs′ ≡ longs) × (words′ ≡ words) × (list′ ≡ list)
+  pub refused : r .answered ≡ true → 0 < numberIn longs words list (fieldsOf p) leastRoom → (longs′ ≡ longs) × (words′ ≡ words) × (list′ ≡ list)
   pub idle : r .answered ≡ false → (longs′ ≡ longs) × (words′ ≡ words) × (list′ ≡ list)
 
 -- from a state to another by n records

@@ -6,7 +6,7 @@ ghost use lib.IntN.{pos};
 ghost use lib.ListN.{drop};
 ghost use Rattle.rules.specs.Basics.{pick};
 ghost use Rattle.rules.specs.Messages.{order};
-ghost use Rattle.rules.specs.Tape.{settingsOf as settingsIn, headerOf as headerIn, bytesOf, legOf as legIn, usesOf as usesIn, fieldsOf as fieldsIn, usedFields, localOf as localIn, nationalOf as nationalIn, termsOf, changeOf as changeIn, bodyOf as bodyIn, messageOf as messageIn, legSection, messageSection, isMisplaced, overlaps, isDamaged, isKind, knownKinds, tapeRefusal};
+ghost use Rattle.rules.specs.Tape.{settingsOf as settingsIn, headerOf as headerIn, bytesOf, legOf as legIn, usesOf as usesIn, fieldsOf as fieldsIn, usedFields, localOf as localIn, nationalOf as nationalIn, termsOf, changeOf as changeIn, bodyOf as bodyIn, messageFrom, messageOf as messageIn, legSection, messageSection, isMisplaced, overlaps, isDamaged, isKind, knownKinds, tapeRefusal};
 ghost use Rattle.types.specs.declared.Body.the-variants.{Order as sentOrder};
 ghost use Rattle.types.specs.View.{legOf, settingsOf, localOf, nationalOf, responseTerms, changeOf, bodyOf, messageOf};
 ghost use Rattle.tape.specs.View.{headerOf, usesOf, fieldsOf, Reads, sectionOf, placeAfter};
@@ -24,8 +24,6 @@ use types::Response;
 use types::Settings;
 
 mod wire;
-
-pub use wire::byte_at;
 
 // ---- header
 
@@ -95,9 +93,9 @@ pub struct Uses {
 }
 
 impl Uses {
-    pub const LEAST_KIND: u8 = 1;
+    pub const LEAST_KIND: u8 = Fields::LOCAL;
 
-    pub const MOST_KIND: u8 = 7;
+    pub const MOST_KIND: u8 = Fields::CLOCK;
 }
 
 // "1 adds leg, bid size, bid, ask, ask size".
@@ -210,8 +208,9 @@ pub fn uses_of(kind: u8) -> Uses
 
 // ---- messages
 
-// The fields of a message record. The fourth byte is an order's auction wish or a quote's leg; units and price are a quote's bid size and bid.
-struct Fields {
+// The fields of a message record. The fourth byte is an order's auction wish or a quote's leg; units and price are a quote's bid size and bid. Hosts hand it over.
+#[repr(C)]
+pub struct Fields {
     pub kind: u8,
     pub side: u8,
     pub account: u8,
@@ -225,8 +224,25 @@ struct Fields {
     pub time: u64,
 }
 
+impl Fields {
+    // "Kinds: 1 local, 2 national, 3 order, 4 response, 5 modify, 6 cancel, 7 clock".
+    pub const LOCAL: u8 = 1;
+
+    pub const NATIONAL: u8 = 2;
+
+    pub const ORDER: u8 = 3;
+
+    pub const RESPONSE: u8 = 4;
+
+    pub const MODIFY: u8 = 5;
+
+    pub const CANCEL: u8 = 6;
+
+    pub const CLOCK: u8 = 7;
+}
+
 // "kind, side, account .., auction wish or leg from 0 ..; id, participant, units or bid size, price or bid, ask, ask size ..; 64-bit time".
-fn fields_of(p: &[u8]) -> Fields
+pub fn fields_of(p: &[u8]) -> Fields
     ensures { λ r. ⌜ fieldsOf r ≡ fieldsIn (now (p .entry)) ⌝ }
 {
     Fields {
@@ -374,27 +390,27 @@ fn modify_of(f: Fields) -> Modify
     }
 }
 
-// "Kinds: 1 local, 2 national, 3 order, 4 response, 5 modify, 6 cancel, 7 clock".
+// The body of a kind.
 fn body_of(f: Fields) -> Body
     ensures { λ r. ⌜ bodyOf r ≡ bodyIn (fieldsOf f) ⌝ }
 {
     let kind = f.kind;
-    if kind == 1 {
+    if kind == Fields::LOCAL {
         return Body::Local(local_of(f));
     }
-    if kind == 2 {
+    if kind == Fields::NATIONAL {
         return Body::National(national_of(f));
     }
-    if kind == 3 {
+    if kind == Fields::ORDER {
         return Body::Order(order_of(f));
     }
-    if kind == 4 {
+    if kind == Fields::RESPONSE {
         return Body::Response(response_of(f));
     }
-    if kind == 5 {
+    if kind == Fields::MODIFY {
         return Body::Modify(modify_of(f));
     }
-    if kind == 6 {
+    if kind == Fields::CANCEL {
         let id = f.id;
         let participant = f.participant;
         return Body::Cancel(Cancel { id, participant });
@@ -402,16 +418,23 @@ fn body_of(f: Fields) -> Body
     Body::Clock
 }
 
+// The message that a record's fields make.
+pub fn message_from(f: Fields) -> Message
+    ensures { λ r. ⌜ messageOf r ≡ messageFrom (fieldsOf f) ⌝ }
+{
+    let row = uses_of(f.kind);
+    let used = used_fields(row, f);
+    let body = body_of(used);
+    let time = used.time;
+    Message { time, body }
+}
+
 // The message of the part of the tape that starts at its record.
 pub fn message_of(p: &[u8]) -> Message
     ensures { λ r. ⌜ messageOf r ≡ messageIn (now (p .entry)) ⌝ }
 {
-    let read = fields_of(p);
-    let row = uses_of(wire::byte_at(p, 0));
-    let f = used_fields(row, read);
-    let body = body_of(f);
-    let time = f.time;
-    Message { time, body }
+    let f = fields_of(p);
+    message_from(f)
 }
 
 // ---- legs

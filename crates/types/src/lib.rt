@@ -1,7 +1,9 @@
 // The engine's types. Each bound of document 01 is an associated constant of the thing that it limits.
 // What a value stands for in the rules is its view, in specs/View.antt. Prices inside are cents + 40,000,000.
+// An opening, with all that it is made of, is laid out as in C: hosts hand it over.
 
 // "A leg has a 21-byte symbol .., a side B or S as seen by a buyer of the strategy, a ratio, and a minimum price step".
+#[repr(C)]
 pub struct Leg {
     pub symbol: [u8; 21],
     pub side: u8,
@@ -31,6 +33,7 @@ impl Leg {
 }
 
 // The amounts of the filter, for an MPV of 1, 5 and 10.
+#[repr(C)]
 pub struct Amounts {
     pub one: u16,
     pub five: u16,
@@ -42,6 +45,7 @@ impl Amounts {
 }
 
 // The class settings, the first arrival number and the opening's time.
+#[repr(C)]
 pub struct Settings {
     pub first: u64,
     pub time: u64,
@@ -70,6 +74,7 @@ impl Settings {
 }
 
 // What is opened: the legs in use are the first `count`.
+#[repr(C)]
 pub struct Opening {
     pub legs: [Leg; 4],
     pub count: usize,

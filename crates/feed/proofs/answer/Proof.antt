@@ -1,21 +1,13 @@
-use mathlib.Core.Path.{refl}
-use Rattle.types.specs.View.{messageOf}
-use Rattle.feed.proofs.ReplyLaws.{known-answer, unknown-answer}
+use Rattle.feed.proofs.ReplyLaws.{same-answer}
 use borrow.Author.Needs.{needs}
 use Rattle.feed.proofs.answer.Statement.{statement}
 use Rattle.feed.proofs.answer.Tie as tie
 
-byte-at-requires : tie.Need-byte-at-requires
-byte-at-requires c κs = search needs
+fields-of-requires : tie.Need-fields-of-requires
+fields-of-requires c κs = search needs
 
-is-kind-requires : tie.Need-is-kind-requires
-is-kind-requires c κs = search needs
-
-message-of-requires : tie.Need-message-of-requires
-message-of-requires c κs = search needs
-
-step-requires : tie.Need-step-requires
-step-requires c κs = search needs
+answer-of-requires : tie.Need-answer-of-requires
+answer-of-requires c κs = search needs
 
 same-length : tie.Need-same-length
 same-length c = search needs
@@ -28,28 +20,17 @@ same-length-3 c = search needs
 
 returns : tie.Need-returns
 returns c =
-    let S = c .before .before .before .before .before .before in
-    let M = S .before .before .before .before in
-    let K = M .before .before in
-    let a = K .before .before .before .before .before .before .args in
-    known-answer (a .longs .now) (a .words .now) (a .list .now) (a .p .now) (S .step .result) (messageOf (M .message-of .result)) _ _ _ (rw (← K .before .byte-at .ensures, ← K .is-kind .ensures) (M .before .if1 .taken)) (M .message-of .ensures) (S .step .ensures)
-
-returns-2 : tie.Need-returns-2
-returns-2 c =
-    let K = c .before in
-    let a = K .before .before .before .before .before .before .args in
-    unknown-answer (a .longs .now) (a .words .now) (a .list .now) (a .p .now) _ (rw (← K .before .byte-at .ensures, ← K .is-kind .ensures) (c .if1 .left)) refl refl
+    let A = c .before .before .before .before .before .before in
+    let F = A .before .before .before .before in
+    same-answer _ _ _ _ _ _ _ _ _ _ (F .fields-of .ensures) (A .answer-of .ensures)
 
 pub answer-spec : {M : Type 1} → statement M
 answer-spec =
     tie.close
     (tie.spec
-    byte-at-requires
-    is-kind-requires
-    message-of-requires
-    step-requires
+    fields-of-requires
+    answer-of-requires
     same-length
     same-length-2
     same-length-3
-    returns
-    returns-2)
+    returns)

@@ -2,8 +2,8 @@ use native.Mathlib.Omega.{arith}
 use Rattle.state.specs.View.{stateOf}
 use Rattle.session.proofs.RunLaws.{left-all, all-told}
 use borrow.Author.Needs.{needs}
-use Rattle.host.proofs.put_messages.Statement.{statement}
-use Rattle.host.proofs.put_messages.Tie as tie
+use Rattle.tumghavi.proofs.put_messages.Statement.{statement}
+use Rattle.tumghavi.proofs.put_messages.Tie as tie
 
 slice-aggregate-run : tie.Need-slice-aggregate-run
 slice-aggregate-run c = search needs

@@ -1,9 +1,9 @@
 use Rattle.session.proofs.PutsLaws.{puts-then}
 use Rattle.session.proofs.TapeLaws.{back-text, read-text}
-use Rattle.host.proofs.OutputLaws.{all-put}
+use Rattle.tumghavi.proofs.OutputLaws.{all-put}
 use borrow.Author.Needs.{needs}
-use Rattle.host.proofs.run_tape.Statement.{statement}
-use Rattle.host.proofs.run_tape.Tie as tie
+use Rattle.tumghavi.proofs.tumghavi_print.Statement.{statement}
+use Rattle.tumghavi.proofs.tumghavi_print.Tie as tie
 
 slice-aggregate-begin : tie.Need-slice-aggregate-begin
 slice-aggregate-begin c = search needs
@@ -50,8 +50,8 @@ returns-2 c =
     let G = E .before .before .before .before in
     all-put _ _ _ _ _ (read-text _ _ _ (G .begin .last .0) (G .begin .last .1 .0) (G .begin .result) (G .begin .ensures) (E .if1 .left)) (puts-then _ _ _ _ _ _ _ _ (T .put-title .ensures .0) (M .put-messages .ensures))
 
-pub run-tape-spec : {M : Type 1} → statement M
-run-tape-spec =
+pub tumghavi-print-spec : {M : Type 1} → statement M
+tumghavi-print-spec =
     tie.close
     (tie.spec
     slice-aggregate-begin

@@ -1,0 +1,200 @@
+/* Each field of each struct, and each kind of outcome: that the library reads and writes it where the header has it. */
+#include <stdio.h>
+#include <string.h>
+
+#include "tumghavi.h"
+
+typedef char opening_size[sizeof(tumghavi_opening) == 136 ? 1 : -1];
+typedef char message_size[sizeof(tumghavi_message) == 40 ? 1 : -1];
+typedef char outcome_size[sizeof(tumghavi_outcome) == 32 ? 1 : -1];
+typedef char fill_size[sizeof(tumghavi_fill) == 48 ? 1 : -1];
+
+#define EXPECT(holds) expect((holds), #holds, __LINE__)
+
+static int failures = 0;
+
+static void expect(int holds, const char *what, int line)
+{
+    if (!holds) {
+        printf("line %d: %s\n", line, what);
+        failures++;
+    }
+}
+
+static tumghavi_fill fills[TUMGHAVI_LEAST_PLACES];
+
+static tumghavi_opening good_opening(void)
+{
+    tumghavi_opening opening;
+    memset(&opening, 0, sizeof opening);
+    memcpy(opening.legs[0].symbol, "XYZ   260116C00020000", 21);
+    memcpy(opening.legs[1].symbol, "XYZ   260116C00025000", 21);
+    opening.legs[0].side = TUMGHAVI_BUY;
+    opening.legs[1].side = TUMGHAVI_SELL;
+    opening.legs[0].ratio = opening.legs[1].ratio = 1;
+    opening.legs[0].mpv = opening.legs[1].mpv = 5;
+    opening.leg_count = 2;
+    opening.first_number = UINT64_C(1000000000000000) - 100;
+    opening.opening_time = 7;
+    opening.minimum = 999999;
+    opening.interval = 1000;
+    opening.distance = 999;
+    opening.most_legs = 4;
+    opening.amounts[0] = opening.amounts[1] = opening.amounts[2] = 999;
+    return opening;
+}
+
+/* The number that an opening gets: where it is 0 nothing is left of what two copies held, else both are as they were. */
+static uint32_t number_of(tumghavi_opening opening)
+{
+    tumghavi_copy copy, other, before;
+    uint32_t number;
+    memset(&copy, 7, sizeof copy);
+    memset(&other, 9, sizeof other);
+    before = copy;
+    number = tumghavi_open(&copy, &opening);
+    EXPECT(tumghavi_open(&other, &opening) == number);
+    EXPECT((memcmp(&copy, &other, sizeof copy) == 0) == (number == 0));
+    EXPECT((memcmp(&copy, &before, sizeof copy) == 0) == (number != 0));
+    return number;
+}
+
+/* An opening with one field changed is refused with a number. */
+#define WITH(change, number)                   \
+    do {                                       \
+        tumghavi_opening opening = good;       \
+        opening.change;                        \
+        EXPECT(number_of(opening) == (number)); \
+    } while (0)
+
+/* The greatest value of each setting is accepted, one more is not, and the bounds differ from field to field. */
+static void openings(void)
+{
+    const tumghavi_opening good = good_opening();
+    EXPECT(number_of(good) == 0);
+    WITH(leg_count = 5, 1);
+    WITH(legs[1].symbol[20] = 'x', 2);
+    WITH(legs[0].symbol[11] = '7', 3);
+    WITH(legs[1] = good.legs[0], 4);
+    WITH(legs[1].ratio = 4, 5);
+    WITH(legs[0].side = 0, 6);
+    WITH(legs[1].mpv = 2, 6);
+    WITH(interval++, 7);
+    WITH(distance++, 7);
+    WITH(most_legs++, 7);
+    WITH(minimum++, 7);
+    WITH(first_number += 101, 7);
+    WITH(opening_time = UINT64_C(1000000000000001), 7);
+    WITH(amounts[0]++, 7);
+    WITH(amounts[1]++, 7);
+    WITH(amounts[2]++, 7);
+}
+
+static int is_refused(tumghavi_outcome outcome, uint32_t number)
+{
+    return outcome.kind == TUMGHAVI_REFUSED && outcome.number == number && outcome.cause == 0 && outcome.fills == 0 && outcome.units == 0 && outcome.deadline == 0;
+}
+
+static tumghavi_message quote(uint8_t leg, int32_t bid, int32_t ask)
+{
+    tumghavi_message message;
+    memset(&message, 0, sizeof message);
+    message.kind = TUMGHAVI_LOCAL;
+    message.wish_or_leg = leg;
+    message.units = message.ask_size = 50;
+    message.price = bid;
+    message.ask = ask;
+    message.time = 7;
+    return message;
+}
+
+static tumghavi_message entry(uint8_t kind, uint32_t id, uint8_t side, uint32_t units, int32_t price)
+{
+    tumghavi_message message;
+    memset(&message, 0, sizeof message);
+    message.kind = kind;
+    message.side = side;
+    message.account = TUMGHAVI_OTHER;
+    message.wish_or_leg = 1;
+    message.id = id;
+    message.participant = 3;
+    message.units = units;
+    message.price = price;
+    message.time = 7;
+    return message;
+}
+
+static tumghavi_outcome send(tumghavi_copy *copy, tumghavi_message message)
+{
+    return tumghavi_step(copy, &message, fills, TUMGHAVI_LEAST_PLACES);
+}
+
+/* An auction that is begun, joined, answered and ended by its deadline: every number of every outcome. */
+static void outcomes(void)
+{
+    tumghavi_opening opening = good_opening();
+    tumghavi_message clock;
+    tumghavi_outcome outcome;
+    tumghavi_copy copy, other;
+    tumghavi_open_counts counts;
+    uint8_t bytes[TUMGHAVI_COPY_SIZE];
+    opening.first_number = 1;
+    opening.minimum = 1;
+    EXPECT(tumghavi_open(&copy, &opening) == 0);
+    outcome = send(&copy, quote(0, 220, 240));
+    EXPECT(outcome.kind == TUMGHAVI_NOTED && outcome.cause == 0 && outcome.number == 0 && outcome.fills == 0 && outcome.units == 0 && outcome.deadline == 0);
+    outcome = send(&copy, quote(1, 110, 120));
+    EXPECT(outcome.kind == TUMGHAVI_NOTED);
+    outcome = send(&copy, entry(TUMGHAVI_ORDER, 11, TUMGHAVI_BUY, 40, 125));
+    EXPECT(outcome.kind == TUMGHAVI_BEGUN && outcome.deadline == 1007 && outcome.units == 0 && outcome.fills == 0);
+    outcome = send(&copy, entry(TUMGHAVI_ORDER, 12, TUMGHAVI_BUY, 20, 125));
+    EXPECT(outcome.kind == TUMGHAVI_JOINED && outcome.units == 60 && outcome.deadline == 0 && outcome.fills == 0);
+    outcome = send(&copy, entry(TUMGHAVI_ORDER, 13, TUMGHAVI_SELL, 5, 140));
+    EXPECT(outcome.kind == TUMGHAVI_PLACED && outcome.units == 5 && outcome.fills == 0 && outcome.deadline == 0);
+    outcome = send(&copy, entry(TUMGHAVI_RESPONSE, 21, TUMGHAVI_SELL, 30, -120));
+    EXPECT(outcome.kind == TUMGHAVI_NOTED);
+    EXPECT(is_refused(send(&copy, entry(TUMGHAVI_RESPONSE, 21, TUMGHAVI_SELL, 30, 120)), 42));
+    counts = tumghavi_counts(&copy);
+    EXPECT(counts.orders == 3 && counts.responses == 1);
+
+    tumghavi_save(&copy, bytes);
+    memset(&other, 7, sizeof other);
+    tumghavi_load(&other, bytes);
+    EXPECT(memcmp(&other, &copy, sizeof copy) == 0);
+
+    clock = entry(TUMGHAVI_CLOCK, 0, 0, 0, 0);
+    clock.time = 1007;
+    EXPECT(is_refused(tumghavi_step(&copy, &clock, fills, TUMGHAVI_LEAST_PLACES - 1), 10));
+    EXPECT(memcmp(&other, &copy, sizeof copy) == 0);
+    outcome = send(&copy, clock);
+    EXPECT(outcome.kind == TUMGHAVI_ENDED && outcome.cause == TUMGHAVI_BY_TIME && outcome.fills == 1 && outcome.units == 0 && outcome.deadline == 0);
+    EXPECT(fills[0].number == 7 && fills[0].order == 11 && tumghavi_fill_rank(&fills[0]) == 'N' && fills[0].units == 30);
+    EXPECT(!tumghavi_fill_is_legs(&fills[0]) && tumghavi_fill_contra(&fills[0]) == 21 && tumghavi_fill_price(&fills[0]) == -120);
+}
+
+/* Bytes of another size than a record's are refused with 61 and change nothing; a record's own size is taken. */
+static void records(void)
+{
+    static const size_t sizes[] = {0, 1, 35, 37};
+    const tumghavi_opening opening = good_opening();
+    uint8_t clock[37] = {TUMGHAVI_CLOCK};
+    tumghavi_copy copy, other;
+    size_t i;
+    clock[28] = 7;
+    EXPECT(tumghavi_open(&copy, &opening) == 0);
+    other = copy;
+    for (i = 0; i < sizeof sizes / sizeof sizes[0]; i++) {
+        EXPECT(is_refused(tumghavi_record(&other, clock, sizes[i], fills, TUMGHAVI_LEAST_PLACES), 61));
+        EXPECT(memcmp(&other, &copy, sizeof copy) == 0);
+    }
+    EXPECT(tumghavi_record(&other, clock, TUMGHAVI_RECORD_SIZE, fills, TUMGHAVI_LEAST_PLACES).kind == TUMGHAVI_NOTED);
+    EXPECT(memcmp(&other, &copy, sizeof copy) != 0);
+}
+
+int main(void)
+{
+    openings();
+    outcomes();
+    records();
+    return failures != 0;
+}
