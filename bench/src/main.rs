@@ -3,6 +3,7 @@
 #[path = "../../host/tests/common/mod.rs"]
 mod common;
 mod made;
+mod pipes;
 
 use made::Case;
 use second::engine::{Engine, Outcome};
@@ -409,7 +410,7 @@ fn run(arguments: &[&str]) -> Result<(), String> {
         deeper(round, &mut || bench.tracks().for_each(|tracks| Way::ALL.iter().for_each(|&way| time(tracks, way))));
     }
     bench.print();
-    Ok(())
+    pipes::print()
 }
 
 fn main() -> ExitCode {

@@ -1,2 +1,3 @@
 pub mod OpeningLaws
 pub mod ReplyLaws
+pub mod RunLaws

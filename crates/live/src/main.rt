@@ -1,9 +1,12 @@
-// live: a copy of the engine over pipes. It reads a header and its legs on standard input and answers the opening; then it answers each message record at once, until the input ends.
+// live: a copy of the engine over pipes. It reads a header and its legs on standard input and answers the opening; then it reads what message records there are and answers them at once, until the input ends.
 ghost use mathlib.Core.Path.{_≡_};
-ghost use Prim.Native.Nat.{_≤_};
+ghost use Prim.Native.Nat.{_+_, _*_, _≤_, _<_};
 ghost use lib.ListN.{length};
-ghost use Rattle.live.specs.Lives.{Fits, Answered, Turns, Lives, Runs};
-use engine::Answer;
+ghost use Rattle.rules.specs.Refusals.{leastRoom};
+ghost use Rattle.state.specs.Layout.{Sized};
+ghost use Rattle.records.specs.Records.{width};
+ghost use Rattle.live.specs.Lives.{Fits, counted, Reads, Answers, Moves, Rounds, Lives, Runs};
+use feed::Cursor;
 use libc::STDIN_FILENO;
 use libc::STDOUT_FILENO;
 use records::Record;
@@ -24,15 +27,53 @@ const LEGS: usize = Opening::MOST_LEGS;
 
 const NUMBERS: usize = Record::NUMBERS * Fill::LEAST_ROOM;
 
-// Between two records: whether the last one was answered, and whether another one is read.
-struct Pause {
-    pub answered: bool,
+// A page has room for half a page, and then for an answer: 2,001 lines of at most 128 bytes.
+const HALF: usize = 256_000;
+
+// What was handed to the system: how many bytes in all, and whether it took the last of them.
+struct Handed {
+    pub bytes: u64,
+    pub taken: bool,
+}
+
+// The answers to the whole records of an input: how many were given, how many bytes they have, and whether the system took them.
+struct Burst {
+    pub answered: usize,
+    pub bytes: u64,
     pub going: bool,
 }
 
-impl Pause {
-    // No copy reads so many: in three years that would be ten thousand million a second.
-    pub const MOST_RECORDS: u64 = 1_000_000_000_000_000_000;
+// The same of one read, and how many bytes of a record are left.
+struct Round {
+    pub left: usize,
+    pub answered: usize,
+    pub bytes: u64,
+    pub going: bool,
+}
+
+// The records that were answered, and the bytes of their answers.
+struct Total {
+    pub records: u64,
+    pub bytes: u64,
+}
+
+impl Total {
+    // No copy reads so often: in three years that would be a hundred million times a second.
+    pub const MOST_READS: u64 = 10_000_000_000_000_000;
+}
+
+// An empty page.
+fn blank_page() -> [u8; 512_128]
+    ensures { λ r. ⌜ 512128 ≡ length r ⌝ }
+{
+    [0; 512_128]
+}
+
+// Room for 1,820 records.
+fn blank_input() -> [u8; 65_520]
+    ensures { λ r. ⌜ 65520 ≡ length r ⌝ }
+{
+    [0; 65_520]
 }
 
 // ---- what is written
@@ -48,28 +89,6 @@ fn say_opening(number: u32) -> bool {
     let mut line = [0u8; 128];
     let n = text::put_opening(&mut line, number);
     say(&line, n)
-}
-
-fn say_line(list: &[u64], a: Answer, i: usize) -> bool {
-    let mut line = [0u8; 128];
-    let n = feed::put_line(&mut line, list, a, i);
-    say(&line, n)
-}
-
-// All lines of an answer.
-fn say_answer(list: &[u64], a: Answer) -> bool {
-    if !say_line(list, a, 0) {
-        return false;
-    }
-    let count = a.count;
-    let mut i: usize = 0;
-    while i < count {
-        i += 1;
-        if !say_line(list, a, i) {
-            return false;
-        }
-    }
-    true
 }
 
 // The input ends inside the header, the legs or a record.
@@ -116,68 +135,167 @@ fn read_opening(head: &mut [u8]) -> bool
 
 // ---- the messages
 
-// A record, answered from the lent state, which becomes that of the answer; a refused one leaves every number as it was. Whether all its lines were taken.
-fn answer(longs: &mut [u64], words: &mut [u32], list: &mut [u64], p: &[u8]) -> bool
-    requires { ⌜ Fits (now longs) (now words) (now list) ⌝ }
-    ensures { λ _. ⌜ Answered longs words list (now (p .entry)) ⌝ }
+// What the system has, as far as there is room; 0 at the end of the input, or where a read fails.
+fn read_some(room: &mut [u8]) -> usize
+    ensures { λ r. ⌜ r ≤ length (now (room .exit)) ⌝ }
 {
-    let a = feed::answer(longs, words, list, p);
-    say_answer(list, a)
+    let got = libc::read(STDIN_FILENO, room);
+    io::count(got, room)
 }
 
-// The next record, read into the lent bytes, and its answer.
-fn turn(longs: &mut [u64], words: &mut [u32], list: &mut [u64], p: &mut [u8; RECORD]) -> Pause
-    requires { ⌜ Fits (now longs) (now words) (now list) ⌝ }
-    ensures { λ r. ⌜ Turns longs words list (now (p .exit)) r ⌝ }
+// The same behind the bytes that are left of a record.
+fn read_behind(input: &mut [u8], left: usize) -> usize
+    requires { ⌜ left < length (now input) ⌝ }
+    ensures { λ r. ⌜ Reads input left r ⌝ }
 {
-    let n = io::read_full(STDIN_FILENO, p);
-    if n == RECORD {
-        let going = answer(longs, words, list, p);
-        return Pause {
-            answered: true,
-            going,
-        };
+    read_some(&mut input[left..])
+}
+
+// All of a part of a page; so many bytes were handed over before it.
+fn hand_over(part: &[u8], before: u64) -> Handed
+    ensures { λ r. ⌜ r .bytes ≡ counted (before + length (now (part .entry))) ⌝ }
+{
+    let taken = io::write_all(STDOUT_FILENO, part);
+    let bytes = number::count_up(before, part.len());
+    Handed { bytes, taken }
+}
+
+// The whole records of an input, answered through a page, which is handed to the system when it is half full and behind the last record.
+fn answer_all(
+    longs: &mut [u64],
+    words: &mut [u32],
+    list: &mut [u64],
+    page: &mut [u8],
+    input: &[u8],
+) -> Burst
+    requires { ⌜ Fits (now longs) (now words) (now list) (now page) ⌝ }
+    ensures { λ r. ⌜ Answers longs words input r ⌝ }
+{
+    let count = input.len() / RECORD;
+    let mut p = Cursor { position: 0, at: 0 };
+    let mut bytes: u64 = 0;
+    while p.position < count {
+        p = feed::run(longs, words, list, page, input, p, HALF);
+        let end = p.at;
+        let h = hand_over(&page[..end], bytes);
+        bytes = h.bytes;
+        if !h.taken {
+            return Burst {
+                answered: p.position,
+                bytes,
+                going: false,
+            };
+        }
+        p.at = 0;
     }
-    if 0 < n {
-        say_incomplete();
-    }
-    Pause {
-        answered: false,
-        going: false,
+    Burst {
+        answered: p.position,
+        bytes,
+        going: true,
     }
 }
 
-// Record after record; how many were answered.
-fn serve(longs: &mut [u64], words: &mut [u32], list: &mut [u64]) -> u64
-    requires { ⌜ Fits (now longs) (now words) (now list) ⌝ }
-    ensures { λ n. ⌜ Lives longs words n ⌝ }
+// The bytes of an input between two offsets move to its front; how many they are.
+fn move_rest(input: &mut [u8], from: usize, to: usize) -> usize
+    requires { ⌜ (from ≤ to) × (to ≤ length (now input)) ⌝ }
+    ensures { λ r. ⌜ Moves from to input r ⌝ }
 {
-    let mut p = [0u8; RECORD];
-    let mut n: u64 = 0;
-    while n < Pause::MOST_RECORDS {
-        let t = turn(longs, words, list, &mut p);
-        if !t.answered {
-            return n;
-        }
-        n += 1;
-        if !t.going {
-            return n;
-        }
+    let n = to - from;
+    let mut i = 0;
+    while i < n {
+        input[i] = input[from + i];
+        i += 1;
     }
     n
 }
 
-// An opening, and the records behind it; how many were answered.
-fn run(longs: &mut [u64], words: &mut [u32], list: &mut [u64], head: &[u8]) -> u64
-    requires { ⌜ Fits (now longs) (now words) (now list) ⌝ }
-    ensures { λ n. ⌜ Runs longs words (now (head .entry)) n ⌝ }
+// One read, behind the bytes that are left of a record, and the answers to every whole record that is there then.
+fn hear(
+    longs: &mut [u64],
+    words: &mut [u32],
+    list: &mut [u64],
+    page: &mut [u8],
+    input: &mut [u8],
+    left: usize,
+) -> Round
+    requires { ⌜ Fits (now longs) (now words) (now list) (now page) × (left < length (now input)) ⌝ }
+    ensures { λ r. ⌜ Rounds longs words input left r ⌝ }
+{
+    let got = read_behind(input, left);
+    if got == 0 {
+        if 0 < left {
+            say_incomplete();
+        }
+        return Round {
+            left,
+            answered: 0,
+            bytes: 0,
+            going: false,
+        };
+    }
+    let end = left + got;
+    let b = answer_all(longs, words, list, page, &input[..end]);
+    let rest = move_rest(input, RECORD * b.answered, end);
+    Round {
+        left: rest,
+        answered: b.answered,
+        bytes: b.bytes,
+        going: b.going,
+    }
+}
+
+// Read after read.
+fn listen(
+    longs: &mut [u64],
+    words: &mut [u32],
+    list: &mut [u64],
+    page: &mut [u8],
+    input: &mut [u8],
+) -> Total
+    requires { ⌜ Fits (now longs) (now words) (now list) (now page) × (length (now input) ≡ 65520) ⌝ }
+    ensures { λ r. ⌜ Lives longs words r ⌝ }
+{
+    let mut left = 0;
+    let mut records: u64 = 0;
+    let mut bytes: u64 = 0;
+    let mut reads: u64 = 0;
+    while reads < Total::MOST_READS {
+        let t = hear(longs, words, list, page, input, left);
+        left = t.left;
+        records += t.answered as u64;
+        bytes = number::count_up(bytes, t.bytes as usize);
+        reads += 1;
+        if !t.going {
+            return Total { records, bytes };
+        }
+    }
+    Total { records, bytes }
+}
+
+// The same with a page and an input of its own.
+fn serve(longs: &mut [u64], words: &mut [u32], list: &mut [u64]) -> Total
+    requires { ⌜ Sized (now longs) (now words) × (leastRoom * width ≤ length (now list)) ⌝ }
+    ensures { λ r. ⌜ Lives longs words r ⌝ }
+{
+    let mut page = blank_page();
+    let mut input = blank_input();
+    listen(longs, words, list, &mut page, &mut input)
+}
+
+// An opening, and the records behind it.
+fn run(longs: &mut [u64], words: &mut [u32], list: &mut [u64], head: &[u8]) -> Total
+    requires { ⌜ Sized (now longs) (now words) × (leastRoom * width ≤ length (now list)) ⌝ }
+    ensures { λ r. ⌜ Runs longs words (now (head .entry)) r ⌝ }
 {
     let number = feed::open(longs, words, head);
     let said = say_opening(number);
     if said & (number == 0) {
         return serve(longs, words, list);
     }
-    0
+    Total {
+        records: 0,
+        bytes: 0,
+    }
 }
 
 fn main() {

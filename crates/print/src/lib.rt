@@ -23,9 +23,6 @@ const NUMBERS: usize = Record::NUMBERS * Fill::LEAST_ROOM;
 // A page has room for half a page, and then for a message: 2,000 records of at most 128 bytes.
 const HALF: usize = 256_000;
 
-// What is counted at most.
-const MOST: u64 = 1_000_000_000_000_000_000;
-
 // An empty page.
 fn blank_page() -> [u8; 512_000]
     ensures { λ r. ⌜ 512000 ≡ length r ⌝ }
@@ -51,19 +48,6 @@ fn turn_page(page: &[u8], n: usize) -> usize
     0
 }
 
-// So many bytes more.
-fn count_up(total: u64, n: usize) -> u64
-    ensures { λ r. ⌜ r ≡ min (total + n) 1000000000000000000 ⌝ }
-{
-    let more = n as u64;
-    if total < MOST {
-        if more < MOST - total {
-            return total + more;
-        }
-    }
-    MOST
-}
-
 // The title, the messages of a tape that is not turned back, and the last line; how many bytes they are.
 fn print_messages(
     longs: &mut [u64],
@@ -87,12 +71,12 @@ fn print_messages(
     while p.position < count {
         p = session::run(longs, words, list, page, tape, count, p, HALF);
         let left = turn_page(page, p.at);
-        total = count_up(total, p.at - left);
+        total = number::count_up(total, p.at - left);
         p.at = left;
     }
     let n = session::put_last(words, page, p.at);
     write_page(page, n);
-    count_up(total, n)
+    number::count_up(total, n)
 }
 
 // Every line of a tape, and how many bytes they are.
@@ -109,5 +93,5 @@ pub fn print_tape(tape: &[u8]) -> u64
     }
     let n = session::put_refused(&mut page, 0, 0, b.number);
     write_page(&page, n);
-    count_up(0, n)
+    number::count_up(0, n)
 }

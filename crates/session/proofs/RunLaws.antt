@@ -16,8 +16,9 @@ use Rattle.text.specs.Text.{lineText, linesText}
 use Rattle.tape.specs.View.{placeAfter}
 use Rattle.tape.proofs.PartLaws.{messages-next}
 use Rattle.session.specs.declared.Place.{Place}
-use Rattle.session.specs.Lines.{mostText, messageLines, messageText, toldLines, toldText, sent, placeBehind, Puts, AreTold, Runs}
-use Rattle.session.proofs.PutsLaws.{puts-none, puts-then, puts-from, lines-append}
+use Rattle.text.specs.Outputs.{Puts}
+use Rattle.text.proofs.PutsLaws.{puts-then, lines-append, first-none, first-next, first-from}
+use Rattle.session.specs.Lines.{mostText, messageLines, messageText, toldLines, toldText, sent, placeBehind, AreTold, Runs}
 
 -- ---- some messages, then others
 
@@ -86,12 +87,10 @@ module _ (tape : List ℕ) (n : ℕ) (p : Place) (most : ℕ) (s : State) (lent 
   told-start place e =
       let z : p .position - p .position ≡ 0 = omega arith in
       record {
-        puts = rw z (puts-none lent (p .at) place e);
+        puts = rw z (first-none text most mostText lent (p .at) place refl e);
         state = rw z refl;
         next = rw z refl;
         inside = (omega arith, omega arith);
-        before = λ j h. absurd (omega (arith, h));
-        whole = λ h k. rw z (omega (arith, k));
       }
 
   module _ (s′ : State) (r : Place) (out : List ℕ) (t : AreTold tape n p most s lent s′ r out) where
@@ -130,26 +129,15 @@ module _ (tape : List ℕ) (n : ℕ) (p : Place) (most : ℕ) (s : State) (lent 
         let z : k + 1 ≡ suc k = omega arith in
         ap (placeAfter tape) (t .next) ∙ sym (behind-next tape k (p .next)) ∙ ap (λ (i : ℕ). placeBehind tape i (p .next)) (sym z)
 
-    one-before : r .at ≤ most → (j : ℕ) → j < k + 1 → min (p .at + length (text j)) (length lent) ≤ most
-    one-before h j l =
-        elim (decLt j k) [
-          | yes y ↦ t .before j y
-          | no y ↦ let z : j ≡ k = omega (arith, l, y) in let e = t .puts .place in rw z (omega (arith, e, h))
-        ]
-
     pub told-next : (next place : ℕ) (new : List ℕ) (s″ : State) → r .position < n → r .at ≤ most → next ≡ placeAfter tape (r .next) → Puts (messageText (r .position + 1) s′ m) out (r .at) place new
         → length (messageText (r .position + 1) s′ m) ≤ mostText → s″ ≡ step s′ m leastRoom .state → AreTold tape n p most s lent s″ (record { position = r .position + 1; next = next; at = place }) new
     told-next next place new s″ h a e d f g =
         let i = t .inside .0 in
-        let c : length (text (k + 1)) ≡ length (text k) + length (messageText (r .position + 1) s′ m) = ap length one-text ∙ length-append (text k) (messageText (r .position + 1) s′ m) in
-        let q = t .puts .place in
         record {
-          puts = rw (counted, one-text) (puts-then (text k) (messageText (r .position + 1) s′ m) lent (p .at) out (r .at) place new (t .puts) d);
+          puts = rw counted (first-next text most mostText lent (p .at) k (r .at) out (messageText (r .position + 1) s′ m) place new (t .puts) a one-text f d);
           state = rw counted (g ∙ one-state);
           next = rw counted (e ∙ one-next);
           inside = (omega (arith, i), omega (arith, h));
-          before = rw counted (one-before a);
-          whole = λ x y. rw counted (omega (arith, x, a, q, c, f));
         }
 
 -- from a place of the output past its end, or its end
@@ -157,12 +145,10 @@ pub told-from : (tape : List ℕ) (n : ℕ) (p : Place) (most : ℕ) (s : State)
     → AreTold tape n (record { position = p .position; next = p .next; at = place }) most s lent s′ r out → AreTold tape n p most s lent s′ r out
 told-from tape n p most s lent s′ r out place e t =
     record {
-      puts = puts-from _ lent (p .at) place (r .at) out e (t .puts);
+      puts = first-from _ most mostText lent (p .at) place _ (r .at) out e (t .puts);
       state = t .state;
       next = t .next;
       inside = t .inside;
-      before = λ j h. let b = t .before j h in omega (arith, b, e);
-      whole = λ x y. let b = t .whole x (omega (arith, x, y, e)) in omega (arith, b, x, y, e);
     }
 
 -- ---- what is left
@@ -209,9 +195,9 @@ module _ (tape : List ℕ) (n : ℕ) (p : Place) (most : ℕ) (s : State) (lent 
         | yes y ↦ y
         | no y ↦
             let z : r .position - p .position ≡ 0 = omega (arith, y) in
-            let e : Puts [] lent (p .at) (r .at) out = rw z at (t .told .puts) in
+            let e : Puts [] lent (p .at) (r .at) out = rw z at (t .told .puts .puts) in
             let x = t .end (omega (arith, h, y)) in
-            let f = e .place in
+            let f = e .end in
             absurd (omega (arith, x, f, l))
       ]
 
@@ -219,8 +205,8 @@ module _ (tape : List ℕ) (n : ℕ) (p : Place) (most : ℕ) (s : State) (lent 
   pub none-lost : most + mostText ≤ length lent → p .at ≤ most + mostText
       → (r .at ≤ most + mostText) × (r .at + length (leftText tape n (r .position) (r .next) s′) ≡ p .at + length (leftText tape n (p .position) (p .next) s))
   none-lost h l =
-      let w = t .told .whole h l in
-      let e = t .told .puts .place in
+      let w = t .told .puts .whole h l in
+      let e = t .told .puts .puts .end in
       let a : List ℕ = toldText (p .position + 1) s (messagesFrom (r .position - p .position) (drop (p .next) tape)) in
       let b : List ℕ = leftText tape n (r .position) (r .next) s′ in
       let k : length (leftText tape n (p .position) (p .next) s) ≡ length a + length b = ap length (left-told tape n p most s lent s′ r out (t .told)) ∙ length-append a b in
@@ -229,11 +215,11 @@ module _ (tape : List ℕ) (n : ℕ) (p : Place) (most : ℕ) (s : State) (lent 
   -- in an output that ends before the place every message is told, and the last line may follow
   pub all-told : length lent ≤ most → (e : ℕ) (last : List ℕ) → Puts (lineText (closing s′)) out (r .at) e last → Puts (leftText tape n (p .position) (p .next) s) lent (p .at) e last
   all-told h e last q =
-      let f = t .told .puts .place in
+      let f = t .told .puts .puts .end in
       let k : n ≤ r .position =
       elim (decLt (r .position) n) [
         | yes y ↦ let x = t .end y in absurd (omega (arith, x, f, h))
         | no y ↦ omega (arith, y)
       ]
       in
-      rw (left-told tape n p most s lent s′ r out (t .told), left-last tape n (r .position) (r .next) s′ k) (puts-then _ (lineText (closing s′)) lent (p .at) out (r .at) e last (t .told .puts) q)
+      rw (left-told tape n p most s lent s′ r out (t .told), left-last tape n (r .position) (r .next) s′ k) (puts-then _ (lineText (closing s′)) lent (p .at) out (r .at) e last (t .told .puts .puts) q)

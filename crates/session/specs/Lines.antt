@@ -1,10 +1,9 @@
 -- The lines of a tape's messages, and what is made of the lent slices and of the output: by a tape's opening, by one message, by one after another.
 use mathlib.Core.Path.{_≡_}
 use mathlib.Core.List.{List, [], _∷_, _++_}
-use Prim.Native.Nat.{ℕ, zero, suc, _+_, _-_, _≤_, _<_, min, max}
+use Prim.Native.Nat.{ℕ, zero, suc, _+_, _-_, _≤_, _<_, max}
 use lib.Dec.{eqb}
 use lib.ListN.{length, drop}
-use lib.Seq.{sets}
 use denote.Ref.{now}
 use Rattle.rules.specs.Basics.{pick}
 use Rattle.rules.specs.Strategy.{openingRefusal}
@@ -19,7 +18,8 @@ use Rattle.state.specs.View.{stateOf}
 use Rattle.state.specs.Lent.{Lent}
 use Rattle.opening.specs.Opens.{openedBy}
 use Rattle.tape.specs.View.{placeAfter}
-use Rattle.text.specs.Text.{lineText, linesText}
+use Rattle.text.specs.Text.{linesText}
+use Rattle.text.specs.Outputs.{Puts, PutsFirst}
 use Rattle.session.specs.declared.Start.{Start}
 use Rattle.session.specs.declared.Place.{Place}
 
@@ -56,28 +56,9 @@ abbrev pub placeBehind : List ℕ → ℕ → ℕ → ℕ
 placeBehind t zero at = at
 placeBehind t (suc n) at = placeBehind t n (placeAfter t at)
 
--- the bytes of a line, at most
-abbrev pub mostLine : ℕ
-mostLine = 128
-
--- those of a message, which has at most 2,000 records
+-- the bytes of a message, which has at most 2,000 records
 abbrev pub mostText : ℕ
 mostText = 256000
-
--- ---- the output
-
--- an output with these bytes from a place on, as far as it has room, and the place behind them
-pub record Puts (text lent : List ℕ) (at r : ℕ) (out : List ℕ) : Type 0 where
-  pub bytes : out ≡ sets lent at text
-  pub place : r ≡ min (at + length text) (length lent)
-
--- the same of some lines, which have at most so many bytes
-abbrev pub PutsLines : List Line → ℕ → Lent → ℕ → ℕ → Type 0
-PutsLines lines most out at r = Puts (linesText lines) (now (out .entry)) at r (now (out .exit)) × (length (linesText lines) ≤ most)
-
--- and of one line
-abbrev pub PutsLine : Line → Lent → ℕ → ℕ → Type 0
-PutsLine line out at r = Puts (lineText line) (now (out .entry)) at r (now (out .exit)) × (length (lineText line) ≤ mostLine)
 
 -- ---- a tape begins
 
@@ -102,12 +83,10 @@ pub record IsTold (k : ℕ) (m : Message) (longs words list lent : List ℕ) (at
 
 -- the messages of n between two places of a tape are told: their bytes, the state after them, and the place behind them; none of them but the last passes a place of the output, and where the output has room for one message more, no byte is left out
 pub record AreTold (tape : List ℕ) (n : ℕ) (p : Place) (most : ℕ) (s : State) (lent : List ℕ) (s′ : State) (r : Place) (out : List ℕ) : Type 0 where
-  pub puts : Puts (toldText (p .position + 1) s (messagesFrom (r .position - p .position) (drop (p .next) tape))) lent (p .at) (r .at) out
+  pub puts : PutsFirst (λ k. toldText (p .position + 1) s (messagesFrom k (drop (p .next) tape))) most mostText lent (p .at) (r .position - p .position) (r .at) out
   pub state : s′ ≡ after s (sent (messagesFrom (r .position - p .position) (drop (p .next) tape)))
   pub next : r .next ≡ placeBehind tape (r .position - p .position) (p .next)
   pub inside : (p .position ≤ r .position) × (r .position ≤ max (p .position) n)
-  pub before : (j : ℕ) → j < r .position - p .position → min (p .at + length (toldText (p .position + 1) s (messagesFrom j (drop (p .next) tape)))) (length lent) ≤ most
-  pub whole : most + mostText ≤ length lent → p .at ≤ most + mostText → p .at + length (toldText (p .position + 1) s (messagesFrom (r .position - p .position) (drop (p .next) tape))) ≤ most + mostText
 
 -- as many are told as it takes to pass that place, or all
 pub record Runs (tape : List ℕ) (n : ℕ) (p : Place) (most : ℕ) (s : State) (lent : List ℕ) (s′ : State) (r : Place) (out : List ℕ) : Type 0 where

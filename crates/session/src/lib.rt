@@ -1,17 +1,15 @@
 // Document 01, "Tape": a tape's messages through the engine, and the bytes that each prints. The state stands in two lent slices, the records of a message in a lent list.
-ghost use mathlib.Core.Path.{_≡_};
 ghost use mathlib.Core.List.{List};
-ghost use Prim.Native.Nat.{ℕ, _+_, _*_, _≤_, min};
-ghost use lib.ListN.{length, take};
-ghost use lib.Seq.{sets};
+ghost use Prim.Native.Nat.{ℕ, _*_, _≤_};
+ghost use lib.ListN.{length};
 ghost use Rattle.rules.specs.Refusals.{leastRoom};
-ghost use Rattle.rules.specs.Print.{titleLine, fillLine, refusedLine, closing, fillLines, refusedLines};
-ghost use Rattle.types.specs.View.{fillOf, messageOf, outcomeOf};
+ghost use Rattle.rules.specs.Print.{titleLine, refusedLine, closing, refusedLines};
+ghost use Rattle.types.specs.View.{messageOf, outcomeOf};
 ghost use Rattle.state.specs.Layout.{WordsSized, Sized};
 ghost use Rattle.state.specs.View.{stateOf};
 ghost use Rattle.records.specs.Records.{width};
-ghost use Rattle.engine.specs.Steps.{recordsIn};
-ghost use Rattle.session.specs.Lines.{mostLine, Puts, PutsLine, PutsLines, IsBegun, Tells, IsRun};
+ghost use Rattle.text.specs.Outputs.{mostLine, PutsLine, PutsLines};
+ghost use Rattle.session.specs.Lines.{IsBegun, Tells, IsRun};
 use types::Fill;
 use types::Message;
 use types::Outcome;
@@ -54,45 +52,13 @@ pub fn begin(longs: &mut [u64], words: &mut [u32], tape: &[u8]) -> Start
 
 // ---- lines of an output, each as far as the output has room
 
-// The first n bytes of a line, from a place of the output on.
-fn add(out: &mut [u8], at: usize, line: &[u8; 128], n: usize) -> usize
-    requires { ⌜ (length (now line) ≡ 128) × (n ≤ 128) × (at ≤ length (now out)) ⌝ }
-    ensures { λ r. ⌜ (now (out .exit) ≡ sets (now (out .entry)) at (take n (now (line .entry)))) × (r ≡ min (at + n) (length (now (out .entry)))) × (length (now (out .exit)) ≡ length (now (out .entry))) ⌝ }
-{
-    let m = number::lesser_size(n, out.len() - at);
-    let mut i = 0;
-    while i < m {
-        out[at + i] = line[i];
-        i += 1;
-    }
-    at + m
-}
-
-// The same for any place: past the end nothing is put.
-fn put(out: &mut [u8], at: usize, line: &[u8; 128], n: usize) -> usize
-    requires { ⌜ (length (now line) ≡ 128) × (n ≤ 128) ⌝ }
-    ensures { λ r. ⌜ Puts (take n (now (line .entry))) (now (out .entry)) at r (now (out .exit)) ⌝ }
-{
-    let start = number::lesser_size(at, out.len());
-    add(out, start, line, n)
-}
-
 // The title.
 pub fn put_title(out: &mut [u8], at: usize) -> usize
     ensures { λ r. ⌜ PutsLine titleLine out at r ⌝ }
 {
     let mut line = [0u8; 128];
     let n = text::put_title(&mut line);
-    put(out, at, &line, n)
-}
-
-// A record.
-fn put_fill(out: &mut [u8], at: usize, f: Fill) -> usize
-    ensures { λ r. ⌜ PutsLine (fillLine (fillOf f)) out at r ⌝ }
-{
-    let mut line = [0u8; 128];
-    let n = text::put_fill(&mut line, f);
-    put(out, at, &line, n)
+    text::add(out, at, &line, n)
 }
 
 // "A refused line gives the tape position from 1, then the number".
@@ -101,7 +67,7 @@ pub fn put_refused(out: &mut [u8], at: usize, position: usize, number: u32) -> u
 {
     let mut line = [0u8; 128];
     let n = text::put_refused(&mut line, position as u64, number);
-    put(out, at, &line, n)
+    text::add(out, at, &line, n)
 }
 
 // "the last line counts open orders and responses".
@@ -112,24 +78,10 @@ pub fn put_last(words: &[u32], out: &mut [u8], at: usize) -> usize
     let mut line = [0u8; 128];
     let counts = book::open_counts(words);
     let n = text::put_last(&mut line, counts.orders as u64, counts.responses as u64);
-    put(out, at, &line, n)
+    text::add(out, at, &line, n)
 }
 
 // ---- a message
-
-// The first n records of a list.
-fn put_fills(list: &[u64], n: usize, out: &mut [u8], from: usize) -> usize
-    requires { ⌜ n * width ≤ length (now list) ⌝ }
-    ensures { λ r. ⌜ PutsLines (fillLines (recordsIn (now (list .entry)) n)) (mostLine * n) out from r ⌝ }
-{
-    let mut at = number::lesser_size(from, out.len());
-    let mut i = 0;
-    while i < n {
-        at = put_fill(out, at, records::fill_at(list, i));
-        i += 1;
-    }
-    at
-}
 
 // The refused line, where a message is refused.
 fn put_outcome(out: &mut [u8], at: usize, position: usize, o: Outcome) -> usize
@@ -161,7 +113,7 @@ pub fn tell(
 {
     let a = engine::step(longs, words, list, m, Fill::LEAST_ROOM);
     let outcome = a.outcome;
-    let behind = put_fills(list, a.count, out, at);
+    let behind = text::add_fills(list, a.count, out, at);
     put_outcome(out, behind, position, outcome)
 }
 

@@ -20,6 +20,7 @@ use types::Modify;
 use types::National;
 use types::Opening;
 use types::Order;
+use types::Refusal;
 use types::Response;
 use types::Settings;
 
@@ -564,7 +565,7 @@ pub fn refusal(t: &[u8]) -> u32
     }
     let h = header_of(t);
     let known = known_kinds(t, h.messageoffset, h.messagecount);
-    if known { 0 } else { 61 }
+    if known { 0 } else { Refusal::NO_KIND }
 }
 
 // ---- parts of the tape

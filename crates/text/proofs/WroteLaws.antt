@@ -1,17 +1,12 @@
 -- Writes that follow each other, and a write from the start on.
 use mathlib.Core.Path.{_≡_, sym, subst, _∙_}
-use mathlib.Core.List.{List, [], _∷_, _++_}
+use mathlib.Core.List.{List, _++_}
 use Prim.Native.Nat.{ℕ, suc, _+_, _≤_, _<_}
 use native.Mathlib.Omega.{arith}
 use lib.ListN.{length, drop, getD, set, length-append, drop-of-length-le}
 use lib.Seq.{sets, sets-eq, length-sets, drop-cons}
 use Rattle.text.specs.Places.{Wrote, Put}
-
-sets-append : (xs ys l : List ℕ) (at : ℕ) → sets l at (xs ++ ys) ≡ sets (sets l at xs) (at + length xs) ys
-sets-append [] ys l at = let e : at + 0 ≡ at = omega arith in rw e
-sets-append (x ∷ xs) ys l at =
-    let e : at + suc (length xs) ≡ suc at + length xs = omega arith in
-    rw e (sets-append xs ys (set l at x) (suc at))
+use Rattle.text.proofs.SetsLaws.{sets-append}
 
 -- two writes, the second behind the first
 pub join : {xs ys l m n : List ℕ} {at r s : ℕ} → Wrote xs at l r m → Wrote ys r m s n → Wrote (xs ++ ys) at l s n

@@ -3,3 +3,4 @@ pub mod Text
 pub mod Places
 pub mod OwnCase
 pub mod Answers
+pub mod Outputs

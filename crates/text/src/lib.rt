@@ -1,16 +1,19 @@
-// The bytes of an output line, of tapeprint (document 01, "Tape") or of live, written at the start of a lent buffer.
+// The bytes of an output line, of tapeprint (document 01, "Tape") or of live, written at the start of a lent buffer; and lines put into an output.
 ghost use mathlib.Core.Path.{_≡_};
 ghost use mathlib.Core.List.{[], _∷_, _++_};
-ghost use Prim.Native.Nat.{_+_, _<_, _≤_};
+ghost use Prim.Native.Nat.{_+_, _*_, _<_, _≤_, min};
 ghost use lib.IntN.{pos, natAbs};
-ghost use lib.ListN.{length};
+ghost use lib.ListN.{length, take};
+ghost use lib.Seq.{sets};
 ghost use lib.Signed.{ltZ};
-ghost use Rattle.rules.specs.Print.{titleLine, fillLine, refusedLine, lastLine};
+ghost use Rattle.rules.specs.Print.{titleLine, fillLine, refusedLine, lastLine, fillLines};
 ghost use Rattle.rules.specs.Outcome.{Ended};
-ghost use Rattle.types.specs.View.{rankOf, contraOf, fillOf, causeOf, outcomeOf};
+ghost use Rattle.types.specs.View.{from, rankOf, contraOf, fillOf, causeOf, outcomeOf};
+ghost use Rattle.records.specs.Records.{recordAt};
 ghost use Rattle.text.specs.Text.{digit, digits, signedDigits, rankLetter, contraNumber, after};
 ghost use Rattle.text.specs.Places.{Wrote, Put, Printed};
 ghost use Rattle.text.specs.Answers.{outcomeText, openingText};
+ghost use Rattle.text.specs.Outputs.{mostLine, Puts, PutsLine, PutsLines};
 ghost use Rattle.text.specs.OwnCase.{OwnCaseText};
 use types::Cause;
 use types::Contra;
@@ -265,4 +268,52 @@ pub fn put_opening(out: &mut [u8; 128], number: u32) -> usize
         return put_word(out, 0, b"opened\n");
     }
     put_one(out, b"refused", number as u64)
+}
+
+// ---- lines of an output, each as far as the output has room
+
+// The first n bytes of a line, from an offset of the output on.
+fn add_within(out: &mut [u8], at: usize, line: &[u8; 128], n: usize) -> usize
+    requires { ⌜ (length (now line) ≡ 128) × (n ≤ 128) × (at ≤ length (now out)) ⌝ }
+    ensures { λ r. ⌜ (now (out .exit) ≡ sets (now (out .entry)) at (take n (now (line .entry)))) × (r ≡ min (at + n) (length (now (out .entry)))) × (length (now (out .exit)) ≡ length (now (out .entry))) ⌝ }
+{
+    let m = number::lesser_size(n, out.len() - at);
+    let mut i = 0;
+    while i < m {
+        out[at + i] = line[i];
+        i += 1;
+    }
+    at + m
+}
+
+// The same for any offset and any number: past the end of the output, or of the line, nothing is put.
+pub fn add(out: &mut [u8], at: usize, line: &[u8; 128], n: usize) -> usize
+    requires { ⌜ length (now line) ≡ 128 ⌝ }
+    ensures { λ r. ⌜ Puts (take n (now (line .entry))) (now (out .entry)) at r (now (out .exit)) ⌝ }
+{
+    let start = number::lesser_size(at, out.len());
+    let size = number::lesser_size(n, 128);
+    add_within(out, start, line, size)
+}
+
+// A record.
+fn add_fill(out: &mut [u8], at: usize, f: Fill) -> usize
+    ensures { λ r. ⌜ PutsLine (fillLine (fillOf f)) out at r ⌝ }
+{
+    let mut line = [0u8; 128];
+    let n = put_fill(&mut line, f);
+    add(out, at, &line, n)
+}
+
+// The first n records of a list.
+pub fn add_fills(list: &[u64], n: usize, out: &mut [u8], start: usize) -> usize
+    ensures { λ r. ⌜ PutsLines (fillLines (from (recordAt (now (list .entry))) 0 n)) (mostLine * n) out start r ⌝ }
+{
+    let mut at = number::lesser_size(start, out.len());
+    let mut i = 0;
+    while i < n {
+        at = add_fill(out, at, records::fill_at(list, i));
+        i += 1;
+    }
+    at
 }

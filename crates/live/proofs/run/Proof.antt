@@ -1,7 +1,7 @@
 use borrow.Author.Tests.{eqb-true}
 use lib.Dec.{eqb}
 use Rattle.rules.proofs.TestLaws.{and-right}
-use Rattle.live.proofs.LiveLaws.{fits-sized, run-opened, run-over}
+use Rattle.live.proofs.LiveLaws.{run-opened, run-over}
 use borrow.Author.Needs.{needs}
 use Rattle.live.proofs.run.Statement.{statement}
 use Rattle.live.proofs.run.Tie as tie
@@ -26,11 +26,12 @@ same-length-3 c = search needs
 
 returns : tie.Need-returns
 returns c =
-    let O = c .before .before .before .before .before .before .before .before .before .before .before .before .before .before .before .before in
+    let R = c .before .before .before .before .before .before in
+    let O = R .before .before .before .before .before .before .before .before .before .before in
     let S = O .before .before .before .before .before .before .before in
     let a = S .args in
-    let R = c .before .before .before .before .before .before in
-    run-opened (a .longs .now) (a .words .now) (O .«open» .last .0) (O .«open» .last .1 .0) (a .head .now) (O .«open» .result) (fits-sized (a .longs .now) (a .words .now) (a .list .now) (S .pre)) (O .«open» .ensures) (R .serve .last .0) (R .serve .last .1 .0) (R .serve .result) (eqb-true _ _ (and-right (R .before .before .before .before .before .say-opening .result) (eqb (O .«open» .result) 0) (R .before .before .before .before .if1 .taken))) (R .serve .ensures)
+    run-opened (a .longs .now) (a .words .now) (O .«open» .last .0) (O .«open» .last .1 .0) (a .head .now) (O .«open» .result) (S .pre .0) (O .«open» .ensures) (R .serve .last .0) (R .serve .last .1 .0) (R .serve .result)
+    (eqb-true _ _ (and-right (R .before .before .before .before .before .say-opening .result) (eqb (O .«open» .result) 0) (R .before .before .before .before .if1 .taken))) (R .serve .ensures)
 
 same-length-4 : tie.Need-same-length-4
 same-length-4 c = search needs
@@ -43,7 +44,7 @@ returns-2 c =
     let O = c .before .before .before .before .before .before in
     let S = O .before .before .before .before .before .before .before in
     let a = S .args in
-    run-over (a .longs .now) (a .words .now) (O .«open» .last .0) (O .«open» .last .1 .0) (a .head .now) (O .«open» .result) (fits-sized (a .longs .now) (a .words .now) (a .list .now) (S .pre)) (O .«open» .ensures)
+    run-over (a .longs .now) (a .words .now) (O .«open» .last .0) (O .«open» .last .1 .0) (a .head .now) (O .«open» .result) (S .pre .0) (O .«open» .ensures)
 
 pub run-spec : {M : Type 1} → statement M
 run-spec =

@@ -3,7 +3,7 @@ use Prim.Native.Nat.{_+_, _-_, _≤_, min}
 use native.Mathlib.Omega.{arith}
 use lib.ListN.{length}
 use Rattle.state.specs.View.{stateOf}
-use Rattle.session.proofs.PutsLaws.{puts-same}
+use Rattle.text.proofs.PutsLaws.{puts-same}
 use Rattle.session.proofs.RunLaws.{leftText, left-all, left-last, some-told, none-lost}
 use borrow.Author.Needs.{needs}
 use Rattle.print.proofs.print_messages.Statement.{statement}
@@ -29,9 +29,9 @@ loop-holds : tie.Need-loop-holds Inv-loop μ-loop
 loop-holds c =
     let T = c .before .before in
     let t = T .put-title .ensures in
-    let place = t .0 .place in
+    let end = t .0 .end in
     let few = t .1 in
-    (refl, refl, refl, refl, puts-same _ _ _ _ _ (t .0) ∙ T .before .before .before .before .before .before .before .pre .2, omega (arith, place, few), omega arith)
+    (refl, refl, refl, refl, puts-same _ _ _ _ _ (t .0) ∙ T .before .before .before .before .before .before .before .pre .2, omega (arith, end, few), omega arith)
 
 run-requires : tie.Need-run-requires Inv-loop μ-loop
 run-requires c κs = search needs
@@ -62,7 +62,7 @@ loop-again c =
     let t = T .turn-page .ensures in
     let n = c .count-up .ensures in
     let w = none-lost _ _ _ _ _ _ _ _ _ (R .run .ensures) (omega (arith, v .4)) (omega (arith, v .5)) .1 in
-    let same = puts-same _ _ _ _ _ (R .run .ensures .told .puts) in
+    let same = puts-same _ _ _ _ _ (R .run .ensures .told .puts .puts) in
     (search needs, search needs, search needs, same ∙ v .3, same ∙ v .4, omega (arith, t .1), omega (arith, n, w, t .0, v .6))
 
 put-last-requires : tie.Need-put-last-requires Inv-loop μ-loop
@@ -100,8 +100,8 @@ returns c =
     let p = L .loop .p in
     let last = ap length (left-last (a .tape .now) (a .b .count) (p .position) (p .next) (stateOf (L .loop .longs) (L .loop .words)) (E .if1 .left)) in
     let all = ap length (left-all (a .tape .now) (a .b .count) (a .b .at) (stateOf (a .longs .now) (a .words .now))) in
-    let first = t .0 .place in
-    let end = l .0 .place in
+    let first = t .0 .end in
+    let end = l .0 .end in
     omega (arith, n, end, L .loop .inv .6, last, all, first, B .pre .2, t .1, l .1, L .loop .inv .4, L .loop .inv .5)
 
 pub print-messages-spec : {M : Type 1} → statement M

@@ -74,10 +74,10 @@ returns-2 c =
     let tape = G .before .before .before .before .before .args .tape .now in
     let all = ap length (back-text _ _ tape (G .begin .last .0) (G .begin .last .1 .0) (G .begin .result) (G .begin .ensures) (E .if1 .left)) in
     let l = P .put-refused .ensures in
-    let place = l .0 .place in
+    let end = l .0 .end in
     let size = G .before .before .before .blank-page .ensures in
     let r = c .count-up .ensures in
-    omega (arith, all, place, l .1, size, r)
+    omega (arith, all, end, l .1, size, r)
 
 pub print-tape-spec : {M : Type 1} → statement M
 print-tape-spec =

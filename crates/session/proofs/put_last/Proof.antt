@@ -1,10 +1,9 @@
-use native.Mathlib.Omega.{arith}
 use Prim.Native.Nat.{_≤_}
 use lib.ListN.{length}
 use Rattle.rules.specs.Print.{lastLine}
 use Rattle.text.specs.Text.{lineText}
-use Rattle.session.specs.Lines.{mostLine, Puts}
-use Rattle.session.proofs.PutsLaws.{puts-line}
+use Rattle.text.specs.Outputs.{mostLine, Puts}
+use Rattle.text.proofs.PutsLaws.{puts-line}
 use borrow.Author.Needs.{needs}
 use Rattle.session.proofs.put_last.Statement.{statement}
 use Rattle.session.proofs.put_last.Tie as tie
@@ -15,8 +14,8 @@ open-counts-requires c κs = search needs
 put-last-requires : tie.Need-put-last-requires
 put-last-requires c κs = search needs
 
-put-requires : tie.Need-put-requires
-put-requires c κs = search needs
+add-requires : tie.Need-add-requires
+add-requires c κs = search needs
 
 same-length : tie.Need-same-length
 same-length c = search needs
@@ -31,10 +30,10 @@ returns c =
     let n = C .open-counts .ensures longs in
     let h = C .open-counts .result in
     let line : Puts (lineText (lastLine (h .orders) (h .responses))) _ _ _ _ × (length (lineText (lastLine (h .orders) (h .responses))) ≤ mostLine) =
-    (puts-line (lastLine (h .orders) (h .responses)) _ _ _ _ _ _ _ (l .0) (l .1) (P .put .ensures), omega (arith, l .0, l .2))
+    puts-line (lineText (lastLine (h .orders) (h .responses))) _ _ _ _ _ _ _ (l .0) (l .1) (l .2) (P .add .ensures)
     in
     rw (n .0, n .1) at line
 
 pub put-last-spec : {M : Type 1} → statement M
 put-last-spec =
-    tie.close (tie.spec open-counts-requires put-last-requires put-requires same-length returns)
+    tie.close (tie.spec open-counts-requires put-last-requires add-requires same-length returns)

@@ -1,6 +1,6 @@
 use native.Mathlib.Omega.{arith}
 use Rattle.rules.specs.Print.{refusedLine}
-use Rattle.session.proofs.PutsLaws.{puts-none, one-line}
+use Rattle.text.proofs.PutsLaws.{puts-none, one-line}
 use borrow.Author.Needs.{needs}
 use Rattle.session.proofs.put_outcome.Statement.{statement}
 use Rattle.session.proofs.put_outcome.Tie as tie

@@ -4,7 +4,7 @@ use native.Mathlib.Omega.{arith}
 use lib.ListN.{length}
 use Rattle.state.specs.View.{stateOf}
 use Rattle.session.specs.Lines.{AreTold}
-use Rattle.session.proofs.PutsLaws.{puts-same}
+use Rattle.text.proofs.PutsLaws.{puts-same}
 use Rattle.session.proofs.RunLaws.{told-start, told-next, told-from}
 use borrow.Author.Needs.{needs}
 use Rattle.session.proofs.run.Statement.{statement}
@@ -37,7 +37,7 @@ same-length-3 : tie.Need-same-length-3 Inv-loop μ-loop
 same-length-3 c = search needs
 
 same-length-4 : tie.Need-same-length-4 Inv-loop μ-loop
-same-length-4 c = let v = c .before .before .loop .inv .3 .puts in puts-same _ _ _ _ _ v
+same-length-4 c = let v = c .before .before .loop .inv .3 .puts .puts in puts-same _ _ _ _ _ v
 
 returns : tie.Need-returns Inv-loop μ-loop
 returns c =
@@ -83,7 +83,7 @@ same-length-7 : tie.Need-same-length-7 Inv-loop μ-loop
 same-length-7 c = search needs
 
 same-length-8 : tie.Need-same-length-8 Inv-loop μ-loop
-same-length-8 c = let v = c .before .loop .inv .3 .puts in puts-same _ _ _ _ _ v
+same-length-8 c = let v = c .before .loop .inv .3 .puts .puts in puts-same _ _ _ _ _ v
 
 returns-2 : tie.Need-returns-2 Inv-loop μ-loop
 returns-2 c =

@@ -1,4 +1,3 @@
-use native.Mathlib.Omega.{arith}
 use Rattle.types.specs.View.{messageOf}
 use Rattle.session.proofs.LineLaws.{message-told}
 use borrow.Author.Needs.{needs}
@@ -8,10 +7,8 @@ use Rattle.session.proofs.tell.Tie as tie
 step-requires : tie.Need-step-requires
 step-requires c κs = search needs
 
-put-fills-requires : tie.Need-put-fills-requires
-put-fills-requires c κs =
-    let t = c .before .before .before .before .before .before .before .before .step .ensures in
-    omega (arith, t .inside .1, t .sized .2)
+add-fills-requires : tie.Need-add-fills-requires
+add-fills-requires c κs = search needs
 
 put-outcome-requires : tie.Need-put-outcome-requires
 put-outcome-requires c κs = search needs
@@ -35,14 +32,14 @@ returns c =
     let S = F .before .before .before .before .before .before .before .before .before in
     let B = S .before .before .before .before .before .before .before .before in
     let a = B .args in
-    message-told (a .position) (messageOf (a .m)) (a .longs .now) (a .words .now) (a .list .now) (a .out .now) (a .at) _ _ _ _ _ _ _ (S .step .result) (B .pre .0) (B .pre .1) (S .step .ensures) (F .put-fills .ensures) (P .put-outcome .ensures)
+    message-told (a .position) (messageOf (a .m)) (a .longs .now) (a .words .now) (a .list .now) (a .out .now) (a .at) _ _ _ _ _ _ _ (S .step .result) (B .pre .0) (B .pre .1) (S .step .ensures) (F .add-fills .ensures) (P .put-outcome .ensures)
 
 pub tell-spec : {M : Type 1} → statement M
 tell-spec =
     tie.close
     (tie.spec
     step-requires
-    put-fills-requires
+    add-fills-requires
     put-outcome-requires
     same-length
     same-length-2

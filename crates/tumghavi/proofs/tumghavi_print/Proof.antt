@@ -1,4 +1,4 @@
-use Rattle.session.proofs.PutsLaws.{puts-then}
+use Rattle.text.proofs.PutsLaws.{puts-then}
 use Rattle.session.proofs.TapeLaws.{back-text, read-text}
 use Rattle.tumghavi.proofs.OutputLaws.{all-put}
 use borrow.Author.Needs.{needs}

@@ -3,10 +3,10 @@ use Prim.Native.Nat.{suc, _+_, _-_, _≤_}
 use native.Mathlib.Omega.{arith}
 use lib.ListN.{length, take, drop, length-set}
 use lib.Seq.{sets}
-use Rattle.session.proofs.SetsLaws.{next-byte, all-added}
+use Rattle.text.proofs.SetsLaws.{next-byte, all-added}
 use borrow.Author.Needs.{needs}
-use Rattle.session.proofs.add.Statement.{statement}
-use Rattle.session.proofs.add.Tie as tie
+use Rattle.text.proofs.add_within.Statement.{statement}
+use Rattle.text.proofs.add_within.Tie as tie
 
 abbrev Inv-loop : tie.InvT-loop
 Inv-loop out₀ at line n m i₀ out i = (length out ≡ length out₀) × (i ≤ m) × (sets out (at + i) (drop i (take n line)) ≡ sets out₀ at (take n line))
@@ -69,8 +69,8 @@ returns c =
     let w = all-added (a .line .now) (L .out) (a .at) (a .n) (L .i) (omega (arith, m, t, l, f .1)) (omega (arith, l, p .2)) in
     (sym w ∙ f .2, omega (arith, m, t, f .1, p .2), l)
 
-pub add-spec : {M : Type 1} → statement M
-add-spec =
+pub add-within-spec : {M : Type 1} → statement M
+add-within-spec =
     tie.close
     (tie.spec
     Inv-loop

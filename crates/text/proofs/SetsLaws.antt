@@ -1,11 +1,11 @@
--- Bytes written from a place of a list on, as far as it reaches.
+-- Bytes written from an offset of a list on, as far as it reaches.
 use mathlib.Core.Path.{_≡_, refl, ap, sym, _∙_}
 use mathlib.Core.List.{List, [], _∷_, _++_}
 use Prim.Native.Nat.{ℕ, zero, suc, _+_, _-_, _≤_, _<_, min}
 use native.Mathlib.Decide.{decLt}
 use native.Mathlib.Omega.{arith}
 use lib.ListN.{length, set, getD, take, drop}
-use lib.Seq.{sets}
+use lib.Seq.{sets, take-all}
 
 set-past : (l : List ℕ) (k x : ℕ) → length l ≤ k → set l k x ≡ l
 set-past [] k x h = refl
@@ -22,7 +22,7 @@ pub sets-append : (xs ys l : List ℕ) (k : ℕ) → sets l k (xs ++ ys) ≡ set
 sets-append [] ys l k = let z : k + zero ≡ k = omega arith in rw z refl
 sets-append (x ∷ xs) ys l k = let z : k + suc (length xs) ≡ suc k + length xs = omega arith in rw z (sets-append xs ys (set l k x) (suc k))
 
--- a place past the end is as good as the end
+-- an offset past the end is as good as the end
 pub sets-least : (xs l : List ℕ) (k n : ℕ) → n ≡ length l → sets l (min k n) xs ≡ sets l k xs
 sets-least xs l k n e =
     elim (decLt k n) [
@@ -49,4 +49,12 @@ all-added line out at n i e h =
     elim (decLt (length out - at) n) [
       | yes l ↦ sets-past (drop i (take n line)) out (at + i) (omega arith)
       | no l ↦ let z : i ≡ n = omega (arith, l) in rw z (ap (sets out (at + n)) (none-after line n))
+    ]
+
+-- more bytes than there are
+pub take-least : (l : List ℕ) (n m : ℕ) → m ≡ length l → take (min n m) l ≡ take n l
+take-least l n m e =
+    elim (decLt n m) [
+      | yes h ↦ let z : min n m ≡ n = omega arith in rw z refl
+      | no h ↦ take-all (min n m) l (omega (arith, h)) ∙ sym (take-all n l (omega (arith, h)))
     ]

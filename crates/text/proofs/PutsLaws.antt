@@ -1,0 +1,95 @@
+-- Bytes put into an output, one text after another.
+use mathlib.Core.Path.{_≡_, refl, ap, sym, _∙_, subst}
+use mathlib.Core.List.{List, [], _∷_, _++_, append-nil, append-assoc}
+use Prim.Native.Nat.{ℕ, _+_, _≤_, min}
+use native.Mathlib.Decide.{decLt}
+use native.Mathlib.Omega.{arith}
+use lib.ListN.{length, length-append, take}
+use lib.Seq.{sets, length-sets, take-at}
+use Rattle.rules.specs.Print.{Line}
+use Rattle.text.specs.Text.{lineText, linesText}
+use Rattle.text.specs.Outputs.{mostLine, Puts, PutsFirst}
+use Rattle.text.proofs.SetsLaws.{sets-append, sets-least}
+
+-- a line's bytes, from the buffer that they were printed into
+pub puts-line : (bytes rest m lent : List ℕ) (n at r : ℕ) (out : List ℕ) → n ≡ length bytes → m ≡ bytes ++ rest → n ≤ mostLine → Puts (take n m) lent at r out → Puts bytes lent at r out × (length bytes ≤ mostLine)
+puts-line bytes rest m lent n at r out e h f p = (subst (λ (t : List ℕ). Puts t lent at r out) (rw h (take-at bytes rest n (sym e))) p, omega (arith, e, f))
+
+-- an output keeps its length
+pub puts-same : (text lent : List ℕ) (at r : ℕ) (out : List ℕ) → Puts text lent at r out → length out ≡ length lent
+puts-same text lent at r out p = ap length (p .bytes) ∙ length-sets lent at text
+
+-- the offset behind bytes that were put
+pub puts-room : (text lent : List ℕ) (at r : ℕ) (out : List ℕ) → Puts text lent at r out → r ≤ length out
+puts-room text lent at r out p = let l = puts-same text lent at r out p in let e = p .end in omega (arith, l, e)
+
+-- no bytes
+pub puts-none : (lent : List ℕ) (at r : ℕ) → r ≡ min at (length lent) → Puts [] lent at r lent
+puts-none lent at r e = record { bytes = refl; end = omega (arith, e) }
+
+-- one text, then another
+pub puts-then : (a b lent : List ℕ) (at : ℕ) (mid : List ℕ) (end r : ℕ) (out : List ℕ) → Puts a lent at end mid → Puts b mid end r out → Puts (a ++ b) lent at r out
+puts-then a b lent at mid end r out p q =
+    let l : length mid ≡ length lent = puts-same a lent at end mid p in
+    let k : length (a ++ b) ≡ length a + length b = length-append a b in
+    let e = p .end in
+    let f = q .end in
+    record {
+      bytes =
+          q .bytes
+          ∙ rw e (sets-least b mid (at + length a) (length lent) (sym l))
+          ∙ ap (λ (x : List ℕ). sets x (at + length a) b) (p .bytes)
+          ∙ sym (sets-append a b lent at);
+      end = omega (arith, l, k, e, f);
+    }
+
+-- the bytes of some lines and then others
+pub lines-append : (ls ms : List Line) → linesText (ls ++ ms) ≡ linesText ls ++ linesText ms
+lines-append [] ms = refl
+lines-append (l ∷ ls) ms = ap (λ (x : List ℕ). lineText l ++ x) (lines-append ls ms) ∙ sym (append-assoc (lineText l) (linesText ls) (linesText ms))
+
+-- an offset past the end is as good as the end
+pub puts-from : (text lent : List ℕ) (at start r : ℕ) (out : List ℕ) → start ≡ min at (length lent) → Puts text lent start r out → Puts text lent at r out
+puts-from text lent at start r out e p = puts-then [] text lent at lent start r out (puts-none lent at start e) p
+
+-- one line alone
+pub one-line : (line : Line) (lent : List ℕ) (at r : ℕ) (out : List ℕ) (n : ℕ) → Puts (lineText line) lent at r out × (length (lineText line) ≤ n) → Puts (linesText (line ∷ [])) lent at r out × (length (linesText (line ∷ [])) ≤ n)
+one-line line lent at r out n p = rw (append-nil (lineText line)) p
+
+-- ---- one text behind the other
+
+module _ (first : ℕ → List ℕ) (most more : ℕ) (lent : List ℕ) where
+  -- none yet
+  pub first-none : (at start : ℕ) → first 0 ≡ [] → start ≡ min at (length lent) → PutsFirst first most more lent at 0 start lent
+  first-none at start z e =
+      record {
+        puts = rw z (puts-none lent at start e);
+        before = λ j h. absurd (omega (arith, h));
+        whole = λ h k. rw z (omega (arith, k));
+      }
+
+  -- one more
+  pub first-next : (at k r : ℕ) (out text : List ℕ) (end : ℕ) (new : List ℕ) → PutsFirst first most more lent at k r out → r ≤ most → first (k + 1) ≡ first k ++ text → length text ≤ more → Puts text out r end new
+      → PutsFirst first most more lent at (k + 1) end new
+  first-next at k r out text end new p h e f d =
+      let c : length (first (k + 1)) ≡ length (first k) + length text = ap length e ∙ length-append (first k) text in
+      let q = p .puts .end in
+      record {
+        puts = rw e (puts-then (first k) text lent at out r end new (p .puts) d);
+        before =
+            λ j l.
+            elim (decLt j k) [
+              | yes y ↦ p .before j y
+              | no y ↦ let z : j ≡ k = omega (arith, l, y) in rw z (omega (arith, q, h))
+            ];
+        whole = λ x y. let w = p .whole x y in omega (arith, x, h, q, c, f, w);
+      }
+
+  -- from an offset past the end, or the end
+  pub first-from : (at start k r : ℕ) (out : List ℕ) → start ≡ min at (length lent) → PutsFirst first most more lent start k r out → PutsFirst first most more lent at k r out
+  first-from at start k r out e p =
+      record {
+        puts = puts-from (first k) lent at start r out e (p .puts);
+        before = λ j h. let b = p .before j h in omega (arith, b, e);
+        whole = λ x y. let b = p .whole x (omega (arith, x, y, e)) in omega (arith, b, x, y, e);
+      }
