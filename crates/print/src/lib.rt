@@ -12,7 +12,7 @@ ghost use Rattle.text.specs.Text.{lineText, linesText};
 ghost use Rattle.session.specs.Lines.{tapeText};
 use libc::STDOUT_FILENO;
 use records::Record;
-use session::Place;
+use session::Cursor;
 use session::Start;
 use state::State;
 use types::Fill;
@@ -62,7 +62,7 @@ fn print_messages(
 {
     let count = b.count;
     let at = session::put_title(page, 0);
-    let mut p = Place {
+    let mut p = Cursor {
         position: 0,
         next: b.at,
         at,

@@ -13,12 +13,12 @@ use Rattle.rules.specs.Run.{after}
 use Rattle.rules.specs.Tape.{messageBytes, messageOf, messagesFrom}
 use Rattle.rules.specs.Print.{Line, closing, fillLines, refusedLines, linesFrom}
 use Rattle.text.specs.Text.{lineText, linesText}
-use Rattle.tape.specs.View.{placeAfter}
+use Rattle.tape.specs.View.{offsetAfter}
 use Rattle.tape.proofs.PartLaws.{messages-next}
-use Rattle.session.specs.declared.Place.{Place}
+use Rattle.session.specs.declared.Cursor.{Cursor}
 use Rattle.text.specs.Outputs.{Puts}
 use Rattle.text.proofs.PutsLaws.{puts-then, lines-append, first-none, first-next, first-from}
-use Rattle.session.specs.Lines.{mostText, messageLines, messageText, toldLines, toldText, sent, placeBehind, AreTold, Runs}
+use Rattle.session.specs.Lines.{mostText, messageLines, messageText, toldLines, toldText, sent, offsetBehind, AreTold, Runs}
 
 -- ---- some messages, then others
 
@@ -58,23 +58,23 @@ messages-length : (n : ℕ) (p : List ℕ) → length (messagesFrom n p) ≡ n
 messages-length zero p = refl
 messages-length (suc n) p = ap suc (messages-length n (drop messageBytes p))
 
-messages-append : (t : List ℕ) (at i j : ℕ) → messagesFrom (i + j) (drop at t) ≡ messagesFrom i (drop at t) ++ messagesFrom j (drop (placeBehind t i at) t)
+messages-append : (t : List ℕ) (at i j : ℕ) → messagesFrom (i + j) (drop at t) ≡ messagesFrom i (drop at t) ++ messagesFrom j (drop (offsetBehind t i at) t)
 messages-append t at zero j = let z : zero + j ≡ j = omega arith in rw z refl
 messages-append t at (suc i) j =
     let z : suc i + j ≡ suc (i + j) = omega arith in
-    let rest : List Message = messagesFrom j (drop (placeBehind t i (placeAfter t at)) t) in
+    let rest : List Message = messagesFrom j (drop (offsetBehind t i (offsetAfter t at)) t) in
     rw z
     (messages-next t at (i + j)
-    ∙ ap (λ (x : List Message). messageOf (drop at t) ∷ x) (messages-append t (placeAfter t at) i j)
+    ∙ ap (λ (x : List Message). messageOf (drop at t) ∷ x) (messages-append t (offsetAfter t at) i j)
     ∙ sym (ap (λ (x : List Message). x ++ rest) (messages-next t at i)))
 
-behind-next : (t : List ℕ) (n at : ℕ) → placeBehind t (suc n) at ≡ placeAfter t (placeBehind t n at)
+behind-next : (t : List ℕ) (n at : ℕ) → offsetBehind t (suc n) at ≡ offsetAfter t (offsetBehind t n at)
 behind-next t zero at = refl
-behind-next t (suc n) at = behind-next t n (placeAfter t at)
+behind-next t (suc n) at = behind-next t n (offsetAfter t at)
 
 -- ---- one message more
 
-module _ (tape : List ℕ) (n : ℕ) (p : Place) (most : ℕ) (s : State) (lent : List ℕ) where
+module _ (tape : List ℕ) (n : ℕ) (p : Cursor) (most : ℕ) (s : State) (lent : List ℕ) where
   abbrev first : ℕ → List Message
   first k = messagesFrom k (drop (p .next) tape)
 
@@ -82,18 +82,18 @@ module _ (tape : List ℕ) (n : ℕ) (p : Place) (most : ℕ) (s : State) (lent 
   text k = toldText (p .position + 1) s (first k)
 
   -- none yet
-  pub told-start : (place : ℕ) → place ≡ min (p .at) (length lent) → AreTold tape n p most s lent s (record { position = p .position; next = p .next; at = place }) lent
+  pub told-start : (offset : ℕ) → offset ≡ min (p .at) (length lent) → AreTold tape n p most s lent s (record { position = p .position; next = p .next; at = offset }) lent
   unfolding after toldLines
-  told-start place e =
+  told-start offset e =
       let z : p .position - p .position ≡ 0 = omega arith in
       record {
-        puts = rw z (first-none text most mostText lent (p .at) place refl e);
+        puts = rw z (first-none text most mostText lent (p .at) offset refl e);
         state = rw z refl;
         next = rw z refl;
         inside = (omega arith, omega arith);
       }
 
-  module _ (s′ : State) (r : Place) (out : List ℕ) (t : AreTold tape n p most s lent s′ r out) where
+  module _ (s′ : State) (r : Cursor) (out : List ℕ) (t : AreTold tape n p most s lent s′ r out) where
     abbrev k : ℕ
     k = r .position - p .position
 
@@ -124,28 +124,28 @@ module _ (tape : List ℕ) (n : ℕ) (p : Place) (most : ℕ) (s : State) (lent 
         ∙ sym (after-append s (first k) (m ∷ []))
         ∙ ap (λ (ms : List Message). after s (sent ms)) (sym one-first)
 
-    one-next : placeAfter tape (r .next) ≡ placeBehind tape (k + 1) (p .next)
+    one-next : offsetAfter tape (r .next) ≡ offsetBehind tape (k + 1) (p .next)
     one-next =
         let z : k + 1 ≡ suc k = omega arith in
-        ap (placeAfter tape) (t .next) ∙ sym (behind-next tape k (p .next)) ∙ ap (λ (i : ℕ). placeBehind tape i (p .next)) (sym z)
+        ap (offsetAfter tape) (t .next) ∙ sym (behind-next tape k (p .next)) ∙ ap (λ (i : ℕ). offsetBehind tape i (p .next)) (sym z)
 
-    pub told-next : (next place : ℕ) (new : List ℕ) (s″ : State) → r .position < n → r .at ≤ most → next ≡ placeAfter tape (r .next) → Puts (messageText (r .position + 1) s′ m) out (r .at) place new
-        → length (messageText (r .position + 1) s′ m) ≤ mostText → s″ ≡ step s′ m leastRoom .state → AreTold tape n p most s lent s″ (record { position = r .position + 1; next = next; at = place }) new
-    told-next next place new s″ h a e d f g =
+    pub told-next : (next offset : ℕ) (new : List ℕ) (s″ : State) → r .position < n → r .at ≤ most → next ≡ offsetAfter tape (r .next) → Puts (messageText (r .position + 1) s′ m) out (r .at) offset new
+        → length (messageText (r .position + 1) s′ m) ≤ mostText → s″ ≡ step s′ m leastRoom .state → AreTold tape n p most s lent s″ (record { position = r .position + 1; next = next; at = offset }) new
+    told-next next offset new s″ h a e d f g =
         let i = t .inside .0 in
         record {
-          puts = rw counted (first-next text most mostText lent (p .at) k (r .at) out (messageText (r .position + 1) s′ m) place new (t .puts) a one-text f d);
+          puts = rw counted (first-next text most mostText lent (p .at) k (r .at) out (messageText (r .position + 1) s′ m) offset new (t .puts) a one-text f d);
           state = rw counted (g ∙ one-state);
           next = rw counted (e ∙ one-next);
           inside = (omega (arith, i), omega (arith, h));
         }
 
--- from a place of the output past its end, or its end
-pub told-from : (tape : List ℕ) (n : ℕ) (p : Place) (most : ℕ) (s : State) (lent : List ℕ) (s′ : State) (r : Place) (out : List ℕ) (place : ℕ) → place ≡ min (p .at) (length lent)
-    → AreTold tape n (record { position = p .position; next = p .next; at = place }) most s lent s′ r out → AreTold tape n p most s lent s′ r out
-told-from tape n p most s lent s′ r out place e t =
+-- from an offset of the output past its end, or its end
+pub told-from : (tape : List ℕ) (n : ℕ) (p : Cursor) (most : ℕ) (s : State) (lent : List ℕ) (s′ : State) (r : Cursor) (out : List ℕ) (offset : ℕ) → offset ≡ min (p .at) (length lent)
+    → AreTold tape n (record { position = p .position; next = p .next; at = offset }) most s lent s′ r out → AreTold tape n p most s lent s′ r out
+told-from tape n p most s lent s′ r out offset e t =
     record {
-      puts = first-from _ most mostText lent (p .at) place _ (r .at) out e (t .puts);
+      puts = first-from _ most mostText lent (p .at) offset _ (r .at) out e (t .puts);
       state = t .state;
       next = t .next;
       inside = t .inside;
@@ -153,7 +153,7 @@ told-from tape n p most s lent s′ r out place e t =
 
 -- ---- what is left
 
--- the bytes that are left behind i messages of n, from a place of the tape and a state on
+-- the bytes that are left behind i messages of n, from an offset of the tape and a state on
 abbrev pub leftText : List ℕ → ℕ → ℕ → ℕ → State → List ℕ
 leftText tape n i at s = linesText (linesFrom (i + 1) s (messagesFrom (n - i) (drop at tape)))
 
@@ -162,14 +162,14 @@ pub left-all : (tape : List ℕ) (n at : ℕ) (s : State) → leftText tape n 0 
 left-all tape n at s = let z : n - 0 ≡ n = omega arith in rw z refl
 
 -- behind some
-pub left-told : (tape : List ℕ) (n : ℕ) (p : Place) (most : ℕ) (s : State) (lent : List ℕ) (s′ : State) (r : Place) (out : List ℕ) → AreTold tape n p most s lent s′ r out
+pub left-told : (tape : List ℕ) (n : ℕ) (p : Cursor) (most : ℕ) (s : State) (lent : List ℕ) (s′ : State) (r : Cursor) (out : List ℕ) → AreTold tape n p most s lent s′ r out
     → leftText tape n (p .position) (p .next) s ≡ toldText (p .position + 1) s (messagesFrom (r .position - p .position) (drop (p .next) tape)) ++ leftText tape n (r .position) (r .next) s′
 left-told tape n p most s lent s′ r out t =
     let k : ℕ = r .position - p .position in
     let a = t .inside .0 in
     let b = t .inside .1 in
     let ms : List Message = messagesFrom k (drop (p .next) tape) in
-    let ns : List Message = messagesFrom (n - r .position) (drop (placeBehind tape k (p .next)) tape) in
+    let ns : List Message = messagesFrom (n - r .position) (drop (offsetBehind tape k (p .next)) tape) in
     let z : n - p .position ≡ k + (n - r .position) = omega (arith, a, b) in
     let l = messages-length k (drop (p .next) tape) in
     let y : p .position + 1 + length ms ≡ r .position + 1 = omega (arith, a, l) in
@@ -186,8 +186,8 @@ left-last tape n i at s h = let z : n - i ≡ 0 = omega arith in rw z (append-ni
 
 -- ---- what a run does
 
-module _ (tape : List ℕ) (n : ℕ) (p : Place) (most : ℕ) (s : State) (lent : List ℕ) (s′ : State) (r : Place) (out : List ℕ) (t : Runs tape n p most s lent s′ r out) where
-  -- it tells a message, where there is one and the output is not written past the place
+module _ (tape : List ℕ) (n : ℕ) (p : Cursor) (most : ℕ) (s : State) (lent : List ℕ) (s′ : State) (r : Cursor) (out : List ℕ) (t : Runs tape n p most s lent s′ r out) where
+  -- it tells a message, where there is one and the output is not written past the offset
   pub some-told : p .position < n → p .at ≤ most → p .position < r .position
   unfolding toldLines
   some-told h l =
@@ -212,7 +212,7 @@ module _ (tape : List ℕ) (n : ℕ) (p : Place) (most : ℕ) (s : State) (lent 
       let k : length (leftText tape n (p .position) (p .next) s) ≡ length a + length b = ap length (left-told tape n p most s lent s′ r out (t .told)) ∙ length-append a b in
       (omega (arith, w, e), omega (arith, w, e, h, k))
 
-  -- in an output that ends before the place every message is told, and the last line may follow
+  -- in an output that ends before the offset every message is told, and the last line may follow
   pub all-told : length lent ≤ most → (e : ℕ) (last : List ℕ) → Puts (lineText (closing s′)) out (r .at) e last → Puts (leftText tape n (p .position) (p .next) s) lent (p .at) e last
   all-told h e last q =
       let f = t .told .puts .puts .end in

@@ -17,11 +17,11 @@ use Rattle.rules.specs.Print.{Line, fillLines, refusedLines, linesOf}
 use Rattle.state.specs.View.{stateOf}
 use Rattle.state.specs.Lent.{Lent}
 use Rattle.opening.specs.Opens.{openedBy}
-use Rattle.tape.specs.View.{placeAfter}
+use Rattle.tape.specs.View.{offsetAfter}
 use Rattle.text.specs.Text.{linesText}
 use Rattle.text.specs.Outputs.{Puts, PutsFirst}
 use Rattle.session.specs.declared.Start.{Start}
-use Rattle.session.specs.declared.Place.{Place}
+use Rattle.session.specs.declared.Cursor.{Cursor}
 
 -- ---- lines
 
@@ -51,10 +51,10 @@ abbrev pub sent : List Message → List Sent
 sent [] = []
 sent (m ∷ ms) = record { message = m; room = leastRoom } ∷ sent ms
 
--- the place of a tape behind n message records
-abbrev pub placeBehind : List ℕ → ℕ → ℕ → ℕ
-placeBehind t zero at = at
-placeBehind t (suc n) at = placeBehind t n (placeAfter t at)
+-- the offset of a tape behind n message records
+abbrev pub offsetBehind : List ℕ → ℕ → ℕ → ℕ
+offsetBehind t zero at = at
+offsetBehind t (suc n) at = offsetBehind t n (offsetAfter t at)
 
 -- the bytes of a message, which has at most 2,000 records
 abbrev pub mostText : ℕ
@@ -81,15 +81,15 @@ pub record IsTold (k : ℕ) (m : Message) (longs words list lent : List ℕ) (at
 
 -- ---- message after message
 
--- the messages of n between two places of a tape are told: their bytes, the state after them, and the place behind them; none of them but the last passes a place of the output, and where the output has room for one message more, no byte is left out
-pub record AreTold (tape : List ℕ) (n : ℕ) (p : Place) (most : ℕ) (s : State) (lent : List ℕ) (s′ : State) (r : Place) (out : List ℕ) : Type 0 where
+-- the messages of n between two cursors of a tape are told: their bytes, the state after them, and the offset behind them; none of them but the last passes an offset of the output, and where the output has room for one message more, no byte is left out
+pub record AreTold (tape : List ℕ) (n : ℕ) (p : Cursor) (most : ℕ) (s : State) (lent : List ℕ) (s′ : State) (r : Cursor) (out : List ℕ) : Type 0 where
   pub puts : PutsFirst (λ k. toldText (p .position + 1) s (messagesFrom k (drop (p .next) tape))) most mostText lent (p .at) (r .position - p .position) (r .at) out
   pub state : s′ ≡ after s (sent (messagesFrom (r .position - p .position) (drop (p .next) tape)))
-  pub next : r .next ≡ placeBehind tape (r .position - p .position) (p .next)
+  pub next : r .next ≡ offsetBehind tape (r .position - p .position) (p .next)
   pub inside : (p .position ≤ r .position) × (r .position ≤ max (p .position) n)
 
--- as many are told as it takes to pass that place, or all
-pub record Runs (tape : List ℕ) (n : ℕ) (p : Place) (most : ℕ) (s : State) (lent : List ℕ) (s′ : State) (r : Place) (out : List ℕ) : Type 0 where
+-- as many are told as it takes to pass that offset, or all
+pub record Runs (tape : List ℕ) (n : ℕ) (p : Cursor) (most : ℕ) (s : State) (lent : List ℕ) (s′ : State) (r : Cursor) (out : List ℕ) : Type 0 where
   pub told : AreTold tape n p most s lent s′ r out
   pub end : r .position < n → most < r .at
 
@@ -102,6 +102,6 @@ abbrev pub Tells : Lent → Lent → Lent → Lent → ℕ → ℕ → Message �
 Tells longs words list out at k m r =
     IsTold k m (now (longs .entry)) (now (words .entry)) (now (list .entry)) (now (out .entry)) at (now (longs .exit)) (now (words .exit)) (now (list .exit)) (now (out .exit)) r
 
-abbrev pub IsRun : Lent → Lent → Lent → Lent → ℕ → Place → ℕ → Place → Type 0
+abbrev pub IsRun : Lent → Lent → Lent → Lent → ℕ → Cursor → ℕ → Cursor → Type 0
 IsRun longs words out tape n p most r =
     Runs (now (tape .entry)) n p most (stateOf (now (longs .entry)) (now (words .entry))) (now (out .entry)) (stateOf (now (longs .exit)) (now (words .exit))) r (now (out .exit))

@@ -21,8 +21,8 @@ pub struct Start {
     pub at: usize,
 }
 
-// Between two messages of a tape: how many are behind, where the next one starts, and the place in the output.
-pub struct Place {
+// Between two messages of a tape: how many are behind, where the next one starts, and the offset in the output.
+pub struct Cursor {
     pub position: usize,
     pub next: usize,
     pub at: usize,
@@ -119,7 +119,7 @@ pub fn tell(
 
 // ---- message after message
 
-// The messages of a tape from a place on, until all are told or the output is written past a place.
+// The messages of a tape from an offset on, until all are told or the output is written past an offset.
 pub fn run(
     longs: &mut [u64],
     words: &mut [u32],
@@ -127,9 +127,9 @@ pub fn run(
     out: &mut [u8],
     tape: &[u8],
     count: usize,
-    p: Place,
+    p: Cursor,
     most: usize,
-) -> Place
+) -> Cursor
     requires { ⌜ Sized (now longs) (now words) × (leastRoom * width ≤ length (now list)) ⌝ }
     ensures { λ r. ⌜ IsRun longs words out tape count p most r ⌝ }
 {
@@ -138,12 +138,12 @@ pub fn run(
     let mut position = p.position;
     while position < count {
         if most < at {
-            return Place { position, next, at };
+            return Cursor { position, next, at };
         }
         let t = tape::take_message(tape, next);
         next = t.next;
         position += 1;
         at = tell(longs, words, list, out, at, position, t.message);
     }
-    Place { position, next, at }
+    Cursor { position, next, at }
 }

@@ -58,7 +58,7 @@ too-many o h = let e : between 2 (length (o .legs)) 4 ≡ false = and-no (leb 2 
 
 -- ---- openings
 
--- of the legs from a place on
+-- of the legs from an offset on
 pub reads-opening : (at : ℕ) (t : List ℕ) (r : Held) → Reads at t r → opening (openingOf r) ≡ opening (strategyFrom at t)
 reads-opening at t r e =
     elim (decLe (r .count) 4) [
@@ -68,7 +68,7 @@ reads-opening at t r e =
           ∙ sym (too-many (strategyFrom at t) (omega (arith, tape-length (headerOf t .legCount) (drop at t), e .count)))
     ]
 
--- from the place that the header names
+-- from the offset that the header names
 pub reads-tape : (t : List ℕ) (r : Held) → Reads (headerOf t .legOffset) t r → opening (openingOf r) ≡ opening (strategyOf t)
 unfolding strategyOf
 reads-tape t r e = reads-opening (headerOf t .legOffset) t r e

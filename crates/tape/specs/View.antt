@@ -44,11 +44,11 @@ fieldsOf f =
       time = f .time;
     }
 
--- the opening of a header and of as many legs as it counts, which stand from a place on
+-- the opening of a header and of as many legs as it counts, which stand from an offset on
 abbrev pub strategyFrom : ℕ → List ℕ → S.Strategy
 strategyFrom at t = record { legs = T.legsFrom (T.headerOf t .legCount) (drop at t); settings = T.headerOf t .settings }
 
--- the opening that is read, field by field: the header's count and settings, and four legs from a place on, those beyond the count too
+-- the opening that is read, field by field: the header's count and settings, and four legs from an offset on, those beyond the count too
 pub record Reads (at : ℕ) (t : List ℕ) (r : Opening) : Type 0 where
   pub count : r .count ≡ T.headerOf t .legCount
   pub settings : settingsOf (r .settings) ≡ T.headerOf t .settings
@@ -58,6 +58,6 @@ pub record Reads (at : ℕ) (t : List ℕ) (r : Opening) : Type 0 where
 abbrev pub sectionOf : Section → T.Section
 sectionOf s = record { start = s .start; size = s .size }
 
--- the place behind the message record at a place, the tape's end at the latest
-abbrev pub placeAfter : List ℕ → ℕ → ℕ
-placeAfter t at = min (at + T.messageBytes) (length t)
+-- the offset behind the message record at an offset, the tape's end at the latest
+abbrev pub offsetAfter : List ℕ → ℕ → ℕ
+offsetAfter t at = min (at + T.messageBytes) (length t)

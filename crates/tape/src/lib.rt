@@ -9,7 +9,7 @@ ghost use Rattle.rules.specs.Messages.{order};
 ghost use Rattle.rules.specs.Tape.{settingsOf as settingsIn, headerOf as headerIn, bytesOf, legOf as legIn, usesOf as usesIn, fieldsOf as fieldsIn, usedFields, localOf as localIn, nationalOf as nationalIn, termsOf, changeOf as changeIn, bodyOf as bodyIn, messageFrom, messageOf as messageIn, legSection, messageSection, isMisplaced, overlaps, isDamaged, isKind, knownKinds, tapeRefusal};
 ghost use Rattle.types.specs.declared.Body.the-variants.{Order as sentOrder};
 ghost use Rattle.types.specs.View.{legOf, settingsOf, localOf, nationalOf, responseTerms, changeOf, bodyOf, messageOf};
-ghost use Rattle.tape.specs.View.{headerOf, usesOf, fieldsOf, Reads, sectionOf, placeAfter};
+ghost use Rattle.tape.specs.View.{headerOf, usesOf, fieldsOf, Reads, sectionOf, offsetAfter};
 use types::Amounts;
 use types::Body;
 use types::Cancel;
@@ -570,14 +570,14 @@ pub fn refusal(t: &[u8]) -> u32
 
 // ---- parts of the tape
 
-// Where the part that starts at a place of so many bytes begins: at their end at the latest.
+// Where the part that starts at an offset of so many bytes begins: at their end at the latest.
 fn start_of(at: usize, bytes: usize) -> usize
     ensures { λ r. ⌜ r ≡ min at bytes ⌝ }
 {
     if at < bytes { at } else { bytes }
 }
 
-// The leg at a place: "handed on as the part of the tape that starts at its offset".
+// The leg at an offset: "handed on as the part of the tape that starts at its offset".
 pub fn leg_at(tape: &[u8], at: usize) -> Leg
     ensures { λ r. ⌜ legOf r ≡ legIn (drop at (now (tape .entry))) ⌝ }
 {
@@ -585,7 +585,7 @@ pub fn leg_at(tape: &[u8], at: usize) -> Leg
     leg_of(&tape[start..])
 }
 
-// The message at a place.
+// The message at an offset.
 pub fn message_at(tape: &[u8], at: usize) -> Message
     ensures { λ r. ⌜ messageOf r ≡ messageIn (drop at (now (tape .entry))) ⌝ }
 {
@@ -593,7 +593,7 @@ pub fn message_at(tape: &[u8], at: usize) -> Message
     message_of(&tape[start..])
 }
 
-// The opening of a header and of legs that stand from a place on: four are read, whatever the count. With more it is refused as the tape's own is.
+// The opening of a header and of legs that stand from an offset on: four are read, whatever the count. With more it is refused as the tape's own is.
 pub fn strategy_from(t: &[u8], at: u16) -> Opening
     ensures { λ r. ⌜ Reads at (now (t .entry)) r ⌝ }
 {
@@ -633,15 +633,15 @@ pub struct TapeReader<'a> {
     pub at: usize,
 }
 
-// A message, and the place behind its record.
+// A message, and the offset behind its record.
 pub struct Taken {
     pub message: Message,
     pub next: usize,
 }
 
-// The place behind the message record at a place, the tape's end at the latest.
-fn place_after(tape: &[u8], at: usize) -> usize
-    ensures { λ r. ⌜ r ≡ placeAfter (now (tape .entry)) at ⌝ }
+// The offset behind the message record at an offset, the tape's end at the latest.
+fn offset_after(tape: &[u8], at: usize) -> usize
+    ensures { λ r. ⌜ r ≡ offsetAfter (now (tape .entry)) at ⌝ }
 {
     let size = Section::MESSAGE as usize;
     let bytes = tape.len();
@@ -652,7 +652,7 @@ fn place_after(tape: &[u8], at: usize) -> usize
     bytes
 }
 
-// The message at the reader's place.
+// The message at the reader's offset.
 pub fn current<'a>(r: TapeReader<'a>) -> Message
     ensures { λ m. ⌜ messageOf m ≡ messageIn (drop (r .entry .at) (now (r .entry .tape))) ⌝ }
 {
@@ -661,9 +661,9 @@ pub fn current<'a>(r: TapeReader<'a>) -> Message
 
 // The same tape, behind that message.
 pub fn after<'a>(r: TapeReader<'a>) -> TapeReader<'a>
-    ensures { λ q. ⌜ (q .tape ≡ r .entry .tape) × (q .at ≡ placeAfter (now (r .entry .tape)) (r .entry .at)) ⌝ }
+    ensures { λ q. ⌜ (q .tape ≡ r .entry .tape) × (q .at ≡ offsetAfter (now (r .entry .tape)) (r .entry .at)) ⌝ }
 {
-    let at = place_after(r.tape, r.at);
+    let at = offset_after(r.tape, r.at);
     TapeReader { tape: r.tape, at }
 }
 
@@ -674,9 +674,9 @@ fn with_next(message: Message, next: usize) -> Taken
     Taken { message, next }
 }
 
-// The message at a place, and the place behind it.
+// The message at an offset, and the offset behind it.
 pub fn take_message(tape: &[u8], at: usize) -> Taken
-    ensures { λ r. ⌜ (messageOf (r .message) ≡ messageIn (drop at (now (tape .entry)))) × (r .next ≡ placeAfter (now (tape .entry)) at) ⌝ }
+    ensures { λ r. ⌜ (messageOf (r .message) ≡ messageIn (drop at (now (tape .entry)))) × (r .next ≡ offsetAfter (now (tape .entry)) at) ⌝ }
 {
     let r = TapeReader { tape, at };
     let message = current(r);

@@ -1,11 +1,11 @@
-// Document 01, "Tape": "Little-endian", "prices signed". Numbers at a place of a lent slice; a byte past its end is 0.
+// Document 01, "Tape": "Little-endian", "prices signed". Numbers at an offset of a lent slice; a byte past its end is 0.
 ghost use mathlib.Core.Path.{_≡_};
 ghost use Prim.Native.Nat.{_+_, _<_, _^_};
 ghost use lib.IntN.{negsuc};
 ghost use lib.ListN.{getD};
 ghost use Rattle.rules.specs.Tape.{half, word, long, signed};
 
-// ---- at a place that leaves room for the places behind it
+// ---- at an offset that leaves room for the bytes behind it
 
 fn byte_in(s: &[u8], at: usize) -> u8
     ensures { λ r. ⌜ r ≡ getD (now (s .entry)) at 0 ⌝ }
@@ -43,30 +43,30 @@ fn long_in(s: &[u8], at: usize) -> u64
     low + 4_294_967_296 * high
 }
 
-// ---- at any place
+// ---- at any offset
 
-// The byte at a place.
+// The byte at an offset.
 pub fn byte_at(s: &[u8], at: u32) -> u8
     ensures { λ r. ⌜ r ≡ getD (now (s .entry)) at 0 ⌝ }
 {
     byte_in(s, at as usize)
 }
 
-// The 16-bit number at a place.
+// The 16-bit number at an offset.
 pub fn half_at(s: &[u8], at: u32) -> u16
     ensures { λ r. ⌜ r ≡ half (now (s .entry)) at ⌝ }
 {
     half_in(s, at as usize)
 }
 
-// The 32-bit number at a place.
+// The 32-bit number at an offset.
 pub fn word_at(s: &[u8], at: u32) -> u32
     ensures { λ r. ⌜ r ≡ word (now (s .entry)) at ⌝ }
 {
     word_in(s, at as usize)
 }
 
-// The 64-bit number at a place.
+// The 64-bit number at an offset.
 pub fn long_at(s: &[u8], at: u32) -> u64
     ensures { λ r. ⌜ r ≡ long (now (s .entry)) at ⌝ }
 {
@@ -93,7 +93,7 @@ pub fn signed_of(bits: u32) -> i32
     under(4_294_967_295 - bits)
 }
 
-// The signed 32-bit number at a place.
+// The signed 32-bit number at an offset.
 pub fn signed_at(s: &[u8], at: u32) -> i32
     ensures { λ r. ⌜ r ≡ signed (word (now (s .entry)) at) ⌝ }
 {

@@ -7,7 +7,7 @@ use Rattle.types.specs.declared.Cause.{Cause as Held}
 use Rattle.types.specs.View.{causeOf}
 use Rattle.text.specs.Ascii.{ascii}
 use Rattle.text.specs.Text.{digits, after}
-use Rattle.text.specs.Places.{Put}
+use Rattle.text.specs.Buffer.{Put}
 use Rattle.text.specs.Answers.{outcomeText}
 
 abbrev endWords : Cause → List ℕ

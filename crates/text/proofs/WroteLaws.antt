@@ -5,7 +5,7 @@ use Prim.Native.Nat.{ℕ, suc, _+_, _≤_, _<_}
 use native.Mathlib.Omega.{arith}
 use lib.ListN.{length, drop, getD, set, length-append, drop-of-length-le}
 use lib.Seq.{sets, sets-eq, length-sets, drop-cons}
-use Rattle.text.specs.Places.{Wrote, Put}
+use Rattle.text.specs.Buffer.{Wrote, Put}
 use Rattle.text.proofs.SetsLaws.{sets-append}
 
 -- two writes, the second behind the first

@@ -1,6 +1,6 @@
 pub mod Ascii
 pub mod Text
-pub mod Places
+pub mod Buffer
 pub mod OwnCase
 pub mod Answers
 pub mod Outputs

@@ -11,7 +11,7 @@ ghost use Rattle.rules.specs.Outcome.{Ended};
 ghost use Rattle.types.specs.View.{from, rankOf, contraOf, fillOf, causeOf, outcomeOf};
 ghost use Rattle.records.specs.Records.{recordAt};
 ghost use Rattle.text.specs.Text.{digit, digits, signedDigits, rankLetter, contraNumber, after};
-ghost use Rattle.text.specs.Places.{Wrote, Put, Printed};
+ghost use Rattle.text.specs.Buffer.{Wrote, Put, Printed};
 ghost use Rattle.text.specs.Answers.{outcomeText, openingText};
 ghost use Rattle.text.specs.Outputs.{mostLine, Puts, PutsLine, PutsLines};
 ghost use Rattle.text.specs.OwnCase.{OwnCaseText};
@@ -26,7 +26,7 @@ pub fn own_case_text()
     ensures { λ _. ⌜ OwnCaseText ⌝ }
 {}
 
-// ---- from a place on
+// ---- from an offset on
 
 fn put_byte(out: &mut [u8; 128], at: usize, b: u8) -> usize
     requires { ⌜ (length (now out) ≡ 128) × (at < 128) ⌝ }

@@ -19,7 +19,7 @@ ghost use Rattle.session.specs.Lines.{tapeText};
 ghost use Rattle.tumghavi.specs.Told.{causeNumber, numbers, numbersOf, recordOf, Told};
 use book::Counts;
 use records::Record;
-use session::Place;
+use session::Cursor;
 use session::Start;
 use state::State;
 use tape::Fields;
@@ -186,7 +186,7 @@ fn put_messages(
     ensures { λ r. ⌜ Puts (linesText (linesFrom 1 (stateOf (now (longs .entry)) (now (words .entry))) (messagesFrom (b .count) (drop (b .at) (now (tape .entry)))))) (now (out .entry)) at r (now (out .exit)) ⌝ }
 {
     let mut list = [0u64; NUMBERS];
-    let first = Place {
+    let first = Cursor {
         position: 0,
         next: b.at,
         at,

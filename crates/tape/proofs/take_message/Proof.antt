@@ -1,4 +1,4 @@
--- `tape::take_message` meets its contract: a walk of its MIR, by hand. The reader is made in a local, passed to `current` and to `after`, and the place of the reader that `after` returns is read.
+-- `tape::take_message` meets its contract: a walk of its MIR, by hand. The reader is made in a local, passed to `current` and to `after`, and the offset of the reader that `after` returns is read.
 -- The struct is Copy: what it owns is had twice, once for each call. Assumes nothing.
 use mathlib.Core.Path.{_≡_, refl, ap, _∙_}
 use Prim.Native.Nat.{ℕ, _<_, _^_}
@@ -45,7 +45,7 @@ use Rattle.rules.specs.Messages.{Message as Sent}
 use Rattle.rules.specs.Tape.{messageOf as messageIn}
 use Rattle.types.specs.View.{messageOf}
 use Rattle.types.specs.declared.Message.{Message}
-use Rattle.tape.specs.View.{placeAfter}
+use Rattle.tape.specs.View.{offsetAfter}
 use Rattle.tape.specs.declared.TapeReader.{TapeReader}
 use Rattle.tape.specs.declared.Taken.{Taken}
 use Rattle.tape.proofs.TapeReader as T
@@ -116,12 +116,12 @@ module _ {M : Type 1} (𝓤 : URA M) (H : Heap 𝓤) (A : Atoms 𝓤) (W : Given
   abbrev L : LL.Laws D
   L = T′.the-laws (namedLft 1 0 tt (κ, tt))
 
-  -- what is taken: a message, and a place
+  -- what is taken: a message, and an offset
   abbrev found : Sent
   found = messageIn (dropped n (now s))
 
   abbrev behind : ℕ
-  behind = placeAfter (now s) n
+  behind = offsetAfter (now s) n
 
   abbrev Post : Val → SProp 𝓤
   Post = walkOf 𝓤 H A take.ended stayed (take.clauses 𝓤 H A mem run) .post (((κ, tt), (q, tt), tt, (s, (n, tt)), vals), tt)

@@ -1,4 +1,4 @@
--- A buffer of 128 bytes, in which bytes are written from a place on.
+-- A buffer of 128 bytes, in which bytes are written from an offset on.
 use mathlib.Core.Path.{_≡_}
 use mathlib.Core.List.{List, _++_}
 use Prim.Native.Nat.{ℕ, _+_, _≤_}
@@ -7,7 +7,7 @@ use lib.Seq.{sets}
 use Rattle.rules.specs.Print.{Line}
 use Rattle.text.specs.Text.{lineText}
 
--- the buffer l became m when these bytes were written from a place on, and r is the place behind them
+-- the buffer l became m when these bytes were written from an offset on, and r is the offset behind them
 pub record Wrote (bytes : List ℕ) (at : ℕ) (l : List ℕ) (r : ℕ) (m : List ℕ) : Type 0 where
   pub end : r ≡ at + length bytes
   pub holds : m ≡ sets l at bytes
