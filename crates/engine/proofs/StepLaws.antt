@@ -2,9 +2,9 @@
 use mathlib.Core.Path.{_≡_, refl, _∙_}
 use mathlib.Core.Bool.{Bool, true, false}
 use mathlib.Core.List.{List, [], _∷_, _++_}
-use Prim.Native.Nat.{ℕ, _+_, _≤_, _<_, min}
+use Prim.Native.Nat.{ℕ, _+_, _*_, _≤_, _<_, min}
 use native.Mathlib.Omega.{arith}
-use borrow.Author.Tests.{ltb-false}
+use borrow.Author.Tests.{ltb-false, eq-eqb}
 use lib.Dec.{ltb}
 use lib.ListN.{length, getD, set, length-set}
 use lib.Seq.{getD-set-same, getD-set-other}
@@ -20,6 +20,8 @@ use Rattle.state.specs.Layout as L
 use Rattle.state.specs.View.{flag, auctionOf, strategyOf, marketOf, entriesOf, stateOf}
 use Rattle.state.proofs.StoreLaws.{kept-all, kept-set}
 use Rattle.state.proofs.StateLaws.{clock-alone}
+use Rattle.records.specs.Records.{width}
+use Rattle.engine.specs.Steps.{placesIn}
 
 -- ---- a message that is turned back, or let pass
 
@@ -27,6 +29,10 @@ use Rattle.state.proofs.StateLaws.{clock-alone}
 pub no-places : (s : State) (m : Message) → refusal s m 0 ≡ 10
 unfolding refusal
 no-places s m = refl
+
+-- the places of a list with room for 2,000 records
+pub all-places : (longs words list : List ℕ) → L.Sized longs words → leastRoom * width ≤ length list → placesIn longs words list leastRoom ≡ leastRoom
+all-places longs words list (a, b) h = rw (eq-eqb (length longs) 70 a, eq-eqb (length words) 580 b) (omega arith)
 
 first-row : (rs ts : List Rule) → isNumbered rs ≡ true → firstOf (rs ++ ts) ≡ 0 → firstOf rs ≡ 0
 first-row [] ts n h = refl

@@ -4,7 +4,6 @@ use mathlib.Core.Bool.{true, false}
 use mathlib.Core.List.{List, [], _++_}
 use Prim.Native.Nat.{ℕ, _*_, _≤_}
 use native.Mathlib.Omega.{arith}
-use borrow.Author.Tests.{eq-eqb}
 use lib.ListN.{length, length-append}
 use Rattle.rules.specs.Outcome.{Refused}
 use Rattle.rules.specs.Refusals.{leastRoom}
@@ -19,6 +18,7 @@ use Rattle.state.specs.View.{stateOf}
 use Rattle.records.specs.Records.{width, recordIn, recordAt}
 use Rattle.engine.specs.declared.Answer.{Answer}
 use Rattle.engine.specs.Steps.{recordsIn, placesIn, IsStep}
+use Rattle.engine.proofs.StepLaws.{all-places}
 use Rattle.text.specs.Text.{linesText}
 use Rattle.text.specs.Answers.{outcomeText}
 use Rattle.text.specs.Outputs.{mostLine, Puts}
@@ -62,10 +62,6 @@ pub same-answer : (longs words list : List ℕ) (f g : Fields) (room : ℕ) (lon
 same-answer longs words list f g room longs′ words′ list′ r e a = subst (λ (x : Fields). IsAnswer longs words list x room longs′ words′ list′ r) e a
 
 -- ---- told
-
--- the places of a list with room for 2,000 records
-all-places : (l w list : List ℕ) → Sized l w → leastRoom * width ≤ length list → placesIn l w list leastRoom ≡ leastRoom
-all-places l w list (a, b) h = rw (eq-eqb (length l) 70 a, eq-eqb (length w) 580 b) (omega arith)
 
 pub record-told : (l w list p lent : List ℕ) (at : ℕ) (l′ w′ list′ mid : List ℕ) (end : ℕ) (out : List ℕ) (r : ℕ) (a : Answer) → Sized l w → leastRoom * width ≤ length list → IsAnswer l w list (fieldsOf p) leastRoom l′ w′ list′ a
     → Puts (outcomeText (outcomeOf (a .outcome))) lent at end mid × (length (outcomeText (outcomeOf (a .outcome))) ≤ mostLine)

@@ -9,7 +9,7 @@ use lib.ListN.{getD}
 use Rattle.rules.specs.Prices.{Quote, usesAsk, lowerQuote, lower}
 use Rattle.rules.specs.State.{withMarket}
 use Rattle.rules.specs.Step.{changed}
-use Rattle.types.specs.declared.Quote.{Quote as Held}
+use Rattle.types.specs.declared.Quote.{Quote as Stored}
 use Rattle.types.specs.View.{from, quoteOf}
 use Rattle.types.proofs.TableLaws.{from-cons, from-end}
 use Rattle.state.specs.Layout as L
@@ -25,7 +25,7 @@ use Rattle.quotes.proofs.LegLaws.{legsFrom, quotesFrom, next-leg, no-le
 -- ---- one quote stored
 
 -- the words of a quote, where they are stored
-abbrev pub quoteStores : ℕ → Held → List Store
+abbrev pub quoteStores : ℕ → Stored → List Store
 quoteStores k q =
     store (L.bids + k) (q .bid)
     ∷ store (L.bidSizes + k) (q .bidsize)
@@ -35,7 +35,7 @@ quoteStores k q =
     ∷ store (L.nationalAsks + k) (q .nationalask)
     ∷ []
 
-module _ (w : List ℕ) (k : ℕ) (q : Held) where
+module _ (w : List ℕ) (k : ℕ) (q : Stored) where
   stored-other : (i : ℕ) → ((j : ℕ) → j < 6 → i ≡ L.bids + j * 4 + k → ⊥) → getD (stores w (quoteStores k q)) i 0 ≡ getD w i 0
   stored-other i n =
       stores-other w (quoteStores k q) i

@@ -4,7 +4,6 @@ use mathlib.Core.Bool.{Bool, true, false}
 use mathlib.Core.List.{List, [], _++_, append-nil}
 use Prim.Native.Nat.{ℕ, _*_, _≤_}
 use native.Mathlib.Omega.{arith}
-use borrow.Author.Tests.{eq-eqb}
 use lib.Dec.{eqb}
 use lib.ListN.{length}
 use Rattle.rules.specs.Basics.{pick}
@@ -14,12 +13,13 @@ use Rattle.rules.specs.Refusals.{leastRoom, refusal}
 use Rattle.rules.specs.Turn.{Fill}
 use Rattle.rules.specs.Step.{Act, goesOn, begins, joining, ends, takeIn, follow, recordsOf, outcomeOf, acted, accepted, turnedBack, step}
 use Rattle.rules.specs.Print.{fillLines, refusedLines}
-use Rattle.types.specs.View as Held
+use Rattle.types.specs.View as View
 use Rattle.state.specs.Layout.{Sized}
 use Rattle.state.specs.View.{stateOf}
 use Rattle.records.specs.Records.{width, recordAt}
 use Rattle.engine.specs.declared.Answer.{Answer as Given}
 use Rattle.engine.specs.Steps.{placesIn, IsStep}
+use Rattle.engine.proofs.StepLaws.{all-places}
 use Rattle.text.specs.Text.{linesText}
 use Rattle.text.specs.Outputs.{mostLine, Puts}
 use Rattle.text.proofs.PutsLaws.{puts-then, lines-append}
@@ -60,26 +60,22 @@ few-lines k s m room = go (eqb (refusal s m room) 0) (refusal s m room)
 
 -- ---- a message told
 
--- the places of a list with room for 2,000 records
-all-places : (l w list : List ℕ) → Sized l w → leastRoom * width ≤ length list → placesIn l w list leastRoom ≡ leastRoom
-all-places l w list (a, b) h = rw (eq-eqb (length l) 70 a, eq-eqb (length w) 580 b) (omega arith)
-
 pub message-told : (k : ℕ) (m : Message) (l w list lent : List ℕ) (at : ℕ) (l′ w′ list′ mid : List ℕ) (end : ℕ) (out : List ℕ) (r : ℕ) (a : Given) → Sized l w → leastRoom * width ≤ length list
     → IsStep l w list m leastRoom l′ w′ list′ a
-    → Puts (linesText (fillLines (Held.from (recordAt list′) 0 (a .count)))) lent at end mid × (length (linesText (fillLines (Held.from (recordAt list′) 0 (a .count)))) ≤ mostLine * a .count)
-    → Puts (linesText (refusedLines k (Held.outcomeOf (a .outcome)))) mid end r out × (length (linesText (refusedLines k (Held.outcomeOf (a .outcome)))) ≤ mostLine)
+    → Puts (linesText (fillLines (View.from (recordAt list′) 0 (a .count)))) lent at end mid × (length (linesText (fillLines (View.from (recordAt list′) 0 (a .count)))) ≤ mostLine * a .count)
+    → Puts (linesText (refusedLines k (View.outcomeOf (a .outcome)))) mid end r out × (length (linesText (refusedLines k (View.outcomeOf (a .outcome)))) ≤ mostLine)
     → IsTold k m l w list lent at l′ w′ list′ out r
 message-told k m l w list lent at l′ w′ list′ mid end out r a z h t p q =
     let s : State = stateOf l w in
     let e : placesIn l w list leastRoom ≡ leastRoom = all-places l w list z h in
-    let g : List Fill = Held.from (recordAt list′) 0 (a .count) in
+    let g : List Fill = View.from (recordAt list′) 0 (a .count) in
     let f : g ≡ step s m leastRoom .fills = fills-known list′ (a .count) (omega (arith, t .sized .2, t .inside .1)) ∙ t .records ∙ ap (λ (n : ℕ). step s m n .fills) e in
-    let o : Held.outcomeOf (a .outcome) ≡ step s m leastRoom .outcome = t .outcome ∙ ap (λ (n : ℕ). step s m n .outcome) e in
+    let o : View.outcomeOf (a .outcome) ≡ step s m leastRoom .outcome = t .outcome ∙ ap (λ (n : ℕ). step s m n .outcome) e in
     let n : a .count ≤ leastRoom = t .inside .0 in
     let x : length (linesText (fillLines g)) ≤ mostText = let y = p .1 in omega (arith, y, n) in
     record {
       puts =
-          subst (λ (x : List ℕ). Puts x lent at r out) (sym (lines-append (fillLines g) (refusedLines k (Held.outcomeOf (a .outcome)))) ∙ (λ i. linesText (fillLines (f i) ++ refusedLines k (o i))))
+          subst (λ (x : List ℕ). Puts x lent at r out) (sym (lines-append (fillLines g) (refusedLines k (View.outcomeOf (a .outcome)))) ∙ (λ i. linesText (fillLines (f i) ++ refusedLines k (o i))))
           (puts-then _ _ lent at mid end r out (p .0) (q .0));
       few = few-lines k s m leastRoom (rw f at x) (rw o at (q .1));
       state = t .state ∙ ap (λ (n : ℕ). step s m n .state) e;

@@ -15,7 +15,7 @@ use Rattle.rules.specs.Run.{refusedOpening, opening}
 use Rattle.rules.specs.Tape.{headerOf, legBytes, legOf, legsFrom, strategyOf}
 use Rattle.rules.proofs.TestLaws.{and-no}
 use Rattle.types.specs.View.{upto, legAt, openingOf}
-use Rattle.types.specs.declared.Opening.{Opening as Held}
+use Rattle.types.specs.declared.Opening.{Opening as Stored}
 use Rattle.types.proofs.TableLaws.{from-length}
 use Rattle.tape.specs.View.{strategyFrom, Reads}
 
@@ -43,7 +43,7 @@ tape-length : (n : ℕ) (p : List ℕ) → length (legsFrom n p) ≡ n
 tape-length zero p = refl
 tape-length (suc n) p = ap suc (tape-length n (drop legBytes p))
 
-reads-few : (at : ℕ) (t : List ℕ) (r : Held) → Reads at t r → r .count ≤ 4 → openingOf r ≡ strategyFrom at t
+reads-few : (at : ℕ) (t : List ℕ) (r : Stored) → Reads at t r → r .count ≤ 4 → openingOf r ≡ strategyFrom at t
 reads-few at t r e h =
     let n : r .count - 0 ≡ headerOf t .legCount = omega (arith, e .count) in
     let z : at + legBytes * 0 ≡ at = omega arith in
@@ -59,7 +59,7 @@ too-many o h = let e : between 2 (length (o .legs)) 4 ≡ false = and-no (leb 2 
 -- ---- openings
 
 -- of the legs from an offset on
-pub reads-opening : (at : ℕ) (t : List ℕ) (r : Held) → Reads at t r → opening (openingOf r) ≡ opening (strategyFrom at t)
+pub reads-opening : (at : ℕ) (t : List ℕ) (r : Stored) → Reads at t r → opening (openingOf r) ≡ opening (strategyFrom at t)
 reads-opening at t r e =
     elim (decLe (r .count) 4) [
       | yes h ↦ ap opening (reads-few at t r e h)
@@ -69,6 +69,6 @@ reads-opening at t r e =
     ]
 
 -- from the offset that the header names
-pub reads-tape : (t : List ℕ) (r : Held) → Reads (headerOf t .legOffset) t r → opening (openingOf r) ≡ opening (strategyOf t)
+pub reads-tape : (t : List ℕ) (r : Stored) → Reads (headerOf t .legOffset) t r → opening (openingOf r) ≡ opening (strategyOf t)
 unfolding strategyOf
 reads-tape t r e = reads-opening (headerOf t .legOffset) t r e

@@ -3,7 +3,7 @@ use mathlib.Core.Path.{_≡_, refl, ap, sym, subst, _∙_}
 use mathlib.Core.List.{List, [], _∷_, _++_}
 use Prim.Native.Nat.{ℕ}
 use Rattle.rules.specs.Outcome.{Cause, byTime, byOrder, byLegs, Ended}
-use Rattle.types.specs.declared.Cause.{Cause as Held}
+use Rattle.types.specs.declared.Cause.{Cause as Stored}
 use Rattle.types.specs.View.{causeOf}
 use Rattle.text.specs.Ascii.{ascii}
 use Rattle.text.specs.Text.{digits, after}
@@ -21,5 +21,5 @@ ended-text byOrder n = refl
 ended-text byLegs n = refl
 
 -- a cause that is known, and its words
-pub put-end : (c k : Held) (n : ℕ) (l m : List ℕ) (r : ℕ) → c ≡ k → Put (endWords (causeOf k) ++ after (digits n ∷ [])) l r m → Put (outcomeText (Ended (causeOf c) n)) l r m
-put-end c k n l m r e p = subst (λ (bs : List ℕ). Put bs l r m) (ended-text (causeOf k) n ∙ ap (λ (h : Held). outcomeText (Ended (causeOf h) n)) (sym e)) p
+pub put-end : (c k : Stored) (n : ℕ) (l m : List ℕ) (r : ℕ) → c ≡ k → Put (endWords (causeOf k) ++ after (digits n ∷ [])) l r m → Put (outcomeText (Ended (causeOf c) n)) l r m
+put-end c k n l m r e p = subst (λ (bs : List ℕ). Put bs l r m) (ended-text (causeOf k) n ∙ ap (λ (h : Stored). outcomeText (Ended (causeOf h) n)) (sym e)) p
