@@ -70,7 +70,7 @@ stayed = (stay-none B yes, tt)
 module _ {M : Type 1} (𝓤 : URA M) (H : Heap 𝓤) (A : Atoms 𝓤) (mem : Memory → SProp 𝓤) (run : Routine → Fun 𝓤) where
   -- the contract that the proof cites
   abbrev OffsetAfter : Contract 𝓤
-  OffsetAfter = tripleOf 𝓤 H An offset.signature (offset.spec 𝓤 H A mem run)
+  OffsetAfter = tripleOf 𝓤 H A offset.signature (offset.spec 𝓤 H A mem run)
 
 module _ {M : Type 1} (𝓤 : URA M) (H : Heap 𝓤) (A : Atoms 𝓤) (W : Given 𝓤 H A) (mem : Memory → SProp 𝓤) (run : Routine → Fun 𝓤) (κ : Lft) (q : Share) (d : TapeReader) where
   abbrev mach : Val
@@ -110,7 +110,7 @@ module _ {M : Type 1} (𝓤 : URA M) (H : Heap 𝓤) (A : Atoms 𝓤) (W : Given
   abbrev to : OffsetAfter 𝓤 H A mem run .Ghost
   to = (((κ, tt), (q, tt), tt, (d .tape, (d .at, tt)), passed), tt)
 
-  asked : ent 𝓤 (onEntry 𝓤 H An offset.signature (κ, tt) (q, tt) (d .tape, (d .at, tt)) passed) (OffsetAfter 𝓤 H A mem run .pre to)
+  asked : ent 𝓤 (onEntry 𝓤 H A offset.signature (κ, tt) (q, tt) (d .tape, (d .at, tt)) passed) (OffsetAfter 𝓤 H A mem run .pre to)
   asked = qed W ((‵ (flft κ q) ⊛ ‵ ftrue) ∷ ‵ (owns (ShrSlice (named 0) κ u8 ∷ usize ∷ []) (d .tape, (d .at, tt)) passed) ∷ []) ∵ join ! $ frame ! $ done !
 
   -- what the struct owns gives what the callee asks, and is kept
@@ -124,7 +124,7 @@ module _ {M : Type 1} (𝓤 : URA M) (H : Heap 𝓤) (A : Atoms 𝓤) (W : Given
       move ! (2 ∷ 0 ∷ []) $ use2 W (raw (OffsetAfter 𝓤 H A mem run .pre to)) asked $ frame ! $ done !)
 
   -- of the callee's `ensured`, the clause alone: it has no `&mut`, so what is said of last values is dropped
-  said : (k : ℕ) → ent 𝓤 (ensured 𝓤 H An offset.ended (offset.clauses 𝓤 H A mem run) (κ, tt) (d .tape, (d .at, tt)) tt k) (fact 𝓤 (k ≡ found))
+  said : (k : ℕ) → ent 𝓤 (ensured 𝓤 H A offset.ended (offset.clauses 𝓤 H A mem run) (κ, tt) (d .tape, (d .at, tt)) tt k) (fact 𝓤 (k ≡ found))
   said k = exE 𝓤 _ (λ ws. snd∗ 𝓤 (sem 𝓤 H A (lasts offset.ended (κ, tt) (d .tape, (d .at, tt)) ws)) (fact 𝓤 (k ≡ found)))
 
   exits : (k : ℕ) → k < 2 ^ 64 → k ≡ found → ent 𝓤 (⋆ 𝓤 H A ((‵ (flft κ q) ⊛ ‵ ftrue) ∷ ‵ Own ∷ [])) (Post (T′.lowered (moved k)))
@@ -144,7 +144,7 @@ module _ {M : Type 1} (𝓤 : URA M) (H : Heap 𝓤) (A : Atoms 𝓤) (W : Given
         assigns ! (of-opd ! (load ! (from ! (fld ! refl (stop !))) (look-in ! 8 (sub ! 1 refl (whole !))))) (from ! (stop !)) (init ! 2 refl (tt, wt .1 .1 .0)) $
         move ! (12 ∷ []) $ use1 W (raw (OffsetAfter 𝓤 H A mem run .pre to) ⊛ ‵ Own) (apart (wt .1 .1 .0 .fits)) $ split ! $
         calls-at ! fm (OffsetAfter 𝓤 H A mem run) known to (and-then ! (load ! (from ! (stop !)) (look ! 6 refl)) (and-then ! (load ! (from ! (stop !)) (look ! 4 refl)) (no-more !))) (λ u.
-        use1 W (later (some (λ (k : ℕ). ((‵ (flft κ q) ⊛ ‵ ftrue) ⊛ ‵ (usize .own k (u ∷ []))) ⊛ raw (ensured 𝓤 H An offset.ended (offset.clauses 𝓤 H A mem run) (κ, tt) (d .tape, (d .at, tt)) tt k)))) (id⊢ 𝓤 _) $ await ! tt $ pick ! (λ k.
+        use1 W (later (some (λ (k : ℕ). ((‵ (flft κ q) ⊛ ‵ ftrue) ⊛ ‵ (usize .own k (u ∷ []))) ⊛ raw (ensured 𝓤 H A offset.ended (offset.clauses 𝓤 H A mem run) (κ, tt) (d .tape, (d .at, tt)) tt k)))) (id⊢ 𝓤 _) $ await ! tt $ pick ! (λ k.
         split ! $ move ! (1 ∷ []) $ use1 W (raw (fact 𝓤 (k ≡ found))) (said k) $ heard ! (k ≡ found) (λ e. split ! $ move ! (1 ∷ []) $
         -- [the answer; the token; what the struct owns; _5; …]
         peeks ! usize (Is usize) (shows 𝓤 H A usize) k (u ∷ []) (λ is.
