@@ -4,6 +4,7 @@ use mathlib.Core.Bool.{Bool, true, false}
 use mathlib.Core.List.{List, [], _∷_}
 use Prim.Native.Nat.{ℕ, _+_, _*_, _≤_, _<_}
 use native.Mathlib.Omega.{arith}
+use borrow.Author.Tests.{eq-eqb}
 use lib.Dec.{eqb}
 use lib.ListN.{length, getD}
 use Rattle.rules.specs.Basics.{pick}
@@ -150,3 +151,6 @@ sized-so longs words h = (
   eq-of (length longs) 70 (and-left (eqb (length longs) 70) (eqb (length words) 580) h),
   eq-of (length words) 580 (and-right (eqb (length longs) 70) (eqb (length words) 580) h),
 )
+
+pub sized-is : (longs words : List ℕ) → Sized longs words → isSized longs words ≡ true
+sized-is longs words h = rw (eq-eqb (length longs) 70 (h .0), eq-eqb (length words) 580 (h .1)) refl

@@ -1,8 +1,10 @@
--- An outcome in numbers counts the records of its answer.
+-- An outcome in numbers counts the records of its answer, and says whether it is refused.
 use mathlib.Core.Path.{_≡_, refl, ap, sym, subst, _∙_}
 use mathlib.Core.Bool.{Bool, true, false}
 use mathlib.Core.List.{List}
-use Prim.Native.Nat.{ℕ}
+use Prim.Native.Nat.{ℕ, _<_}
+use native.Mathlib.Omega.{arith}
+use borrow.Author.Tests.{eqb-false}
 use lib.Dec.{eqb}
 use lib.ListN.{length}
 use Rattle.rules.specs.Basics.{pick}
@@ -15,7 +17,9 @@ use Rattle.rules.specs.Tape.{Fields, isKind, messageFrom}
 use Rattle.types.specs.View.{outcomeOf}
 use Rattle.engine.specs.declared.Answer.{Answer}
 use Rattle.engine.specs.Steps.{recordsIn, placesIn}
+use Rattle.state.specs.Layout.{Sized}
 use Rattle.state.specs.View.{stateOf}
+use Rattle.state.proofs.StateLaws.{sized-is}
 use Rattle.feed.specs.Replies.{answerOf, IsAnswer}
 use Rattle.tumghavi.specs.declared.Outcome.{Outcome}
 use Rattle.tumghavi.specs.Told.{numbersOf, places, toldIn, IsTold}
@@ -59,23 +63,61 @@ answer-counted : (s : State) (f : Fields) (room : ℕ) → Counted (answerOf s f
 unfolding answerOf
 answer-counted s f room = counted-pick (isKind (f .kind)) (R.step s (messageFrom f) room) (R.turnedBack s 61) (step-counted s (messageFrom f) room) refl
 
+-- ---- a refusal
+
+-- an accepted message is not told as refused
+accepted-kind : (b : Body) (a : Act) (s : State) (n : ℕ) → numbersOf (R.outcomeOf b a s n) .kind ≡ 6 → ⊥
+accepted-kind (local q) goesOn s n e = omega arith
+accepted-kind (national q) goesOn s n e = omega arith
+accepted-kind (order t w) goesOn s n e = omega arith
+accepted-kind (response t) goesOn s n e = omega arith
+accepted-kind (modify c) goesOn s n e = omega arith
+accepted-kind (cancel i p) goesOn s n e = omega arith
+accepted-kind clock goesOn s n e = omega arith
+accepted-kind b begins s n e = omega arith
+accepted-kind b joining s n e = omega arith
+accepted-kind b (ends c) s n e = omega arith
+
+step-refused : (s : State) (m : Message) (room : ℕ) → numbersOf (R.step s m room .outcome) .kind ≡ 6 → 0 < refusal s m room
+unfolding R.step R.accepted R.acted
+step-refused s m room e = go (eqb (refusal s m room) 0) refl e
+  where
+    go : (b : Bool) → eqb (refusal s m room) 0 ≡ b → numbersOf (pick b (R.accepted s m) (R.turnedBack s (refusal s m room)) .outcome) .kind ≡ 6 → 0 < refusal s m room
+    go true h k = absurd (let i = R.takeIn (taken s (m .time)) (m .body) in accepted-kind (m .body) (i .act) _ _ k)
+    go false h k = omega (arith, eqb-false (refusal s m room) 0 h)
+
+-- what is told as refused has a number
+answer-refused : (s : State) (f : Fields) (room : ℕ) → numbersOf (answerOf s f room .outcome) .kind ≡ 6 → 0 < pick (isKind (f .kind)) (refusal s (messageFrom f) room) 61
+unfolding answerOf
+answer-refused s f room e = go (isKind (f .kind)) e
+  where
+    go : (b : Bool) → numbersOf (pick b (R.step s (messageFrom f) room) (R.turnedBack s 61) .outcome) .kind ≡ 6 → 0 < pick b (refusal s (messageFrom f) room) 61
+    go true k = step-refused s (messageFrom f) room k
+    go false k = omega arith
+
 -- ---- what is told of an answer
 
-pub told : (longs words list : List ℕ) (f : Fields) (longs′ words′ list′ : List ℕ) (a : Answer) (r : Outcome)
+-- a state's arrays have all places of the list
+all-places : (longs words list : List ℕ) → Sized longs words → placesIn longs words list (places list) ≡ places list
+all-places longs words list h = rw (sized-is longs words h) (omega arith)
+
+pub told : (longs words list : List ℕ) (f : Fields) (longs′ words′ list′ : List ℕ) (a : Answer) (r : Outcome) → Sized longs words
     → IsAnswer longs words list f (places list) longs′ words′ list′ a → r ≡ numbersOf (outcomeOf (a .outcome)) → IsTold longs words list f longs′ words′ list′ r
-told longs words list f longs′ words′ list′ a r p e =
-    let o : r ≡ numbersOf (toldIn longs words list f .outcome) = e ∙ ap numbersOf (p .outcome) in
-    let n : r .fills ≡ length (toldIn longs words list f .fills) = ap (λ (x : Outcome). x .fills) o ∙ answer-counted (stateOf longs words) f (placesIn longs words list (places list)) in
-    let c : r .fills ≡ a .count = n ∙ sym (p .count) in
+told longs words list f longs′ words′ list′ a r h p e =
+    let q = all-places longs words list h in
+    let o : r ≡ numbersOf (toldIn longs words list f .outcome) = rw q at (e ∙ ap numbersOf (p .outcome)) in
+    let n : r .fills ≡ length (toldIn longs words list f .fills) = ap (λ (x : Outcome). x .fills) o ∙ answer-counted (stateOf longs words) f (places list) in
+    let k : length (toldIn longs words list f .fills) ≡ a .count = rw q at (sym (p .count)) in
+    let c : r .fills ≡ a .count = n ∙ k in
     record {
-      state = p .state;
+      state = rw q at (p .state);
       outcome = o;
       count = n;
-      records = ap (recordsIn list′) c ∙ p .records;
+      records = ap (recordsIn list′) c ∙ (rw q at (p .records));
       behind = rw (sym c) at (p .behind);
       sized = p .sized;
       inside = rw c (p .inside .0);
-      refused = p .refused;
+      refused = λ z. p .refused (rw q (answer-refused (stateOf longs words) f (places list) (ap (λ (x : Outcome). x .kind) (sym o) ∙ z)));
     }
 
 -- of equal fields

@@ -1,7 +1,7 @@
 -- What a host is told of a message record, in numbers, and what it finds in its arrays then.
 use mathlib.Core.Path.{_≡_}
 use mathlib.Core.List.{List, []}
-use Prim.Native.Nat.{ℕ, _*_, _/_, _≤_, _<_}
+use Prim.Native.Nat.{ℕ, _*_, _/_, _≤_}
 use lib.Dec.{eqb}
 use lib.ListN.{length, getD}
 use denote.Ref.{now}
@@ -14,7 +14,7 @@ use Rattle.state.specs.View.{stateOf}
 use Rattle.state.specs.Lent.{Lent}
 use Rattle.records.specs.Records.{width}
 use Rattle.engine.specs.Steps.{recordsIn}
-use Rattle.feed.specs.Replies.{answerIn, numberIn}
+use Rattle.feed.specs.Replies.{answerOf}
 use Rattle.tumghavi.specs.declared.Outcome.{Outcome}
 
 -- ---- an outcome in numbers
@@ -50,9 +50,9 @@ places list = length list / width
 
 -- the answer to a record's fields, with all places of the list
 abbrev pub toldIn : List ℕ → List ℕ → List ℕ → Fields → R.Answer
-toldIn longs words list f = answerIn longs words list f (places list)
+toldIn longs words list f = answerOf (stateOf longs words) f (places list)
 
--- what a message leaves, whole: the state, the outcome, and as many records at the start of the list as it counts; what stands behind them is as it was, and under a refusal every number is
+-- what a message leaves, whole: the state, the outcome, and as many records at the start of the list as it counts; what stands behind them is as it was, and where the outcome is a refusal every number is
 pub record IsTold (longs words list : List ℕ) (f : Fields) (longs′ words′ list′ : List ℕ) (r : Outcome) : Type 0 where
   pub state : stateOf longs′ words′ ≡ toldIn longs words list f .state
   pub outcome : r ≡ numbersOf (toldIn longs words list f .outcome)
@@ -61,7 +61,7 @@ pub record IsTold (longs words list : List ℕ) (f : Fields) (longs′ words′ 
   pub behind : (i : ℕ) → r .fills * width ≤ i → getD list′ i 0 ≡ getD list i 0
   pub sized : (length longs′ ≡ length longs) × (length words′ ≡ length words) × (length list′ ≡ length list)
   pub inside : r .fills ≤ places list
-  pub refused : 0 < numberIn longs words list f (places list) → (longs′ ≡ longs) × (words′ ≡ words) × (list′ ≡ list)
+  pub refused : r .kind ≡ 6 → (longs′ ≡ longs) × (words′ ≡ words) × (list′ ≡ list)
 
 -- the same of the lent arrays, for a contract
 abbrev pub Told : Lent → Lent → Lent → Fields → Outcome → Type 0

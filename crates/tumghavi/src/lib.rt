@@ -35,7 +35,7 @@ const NUMBERS: usize = Record::NUMBERS * Fill::LEAST_ROOM;
 
 // ---- an outcome in numbers
 
-// What a message is answered with. A number that the outcome does not have is 0: the cause of an end, the number of a refusal, the fills, the units open or in the queue, the deadline.
+// What a message is answered with: kind, cause of an end, number of a refusal, fills, units open or in the queue, deadline. What the outcome does not have is 0.
 #[repr(C)]
 pub struct Outcome {
     pub kind: u32,
@@ -118,6 +118,7 @@ pub extern "C" fn tumghavi_open_in(longs: &mut [u64; 70], words: &mut [u32; 580]
 
 // A message record's fields answered in a copy, with all places of the list.
 fn tell(longs: &mut [u64], words: &mut [u32], list: &mut [u64], f: Fields) -> Outcome
+    requires { ⌜ Sized (now longs) (now words) ⌝ }
     ensures { λ r. ⌜ Told longs words list (fieldsOf f) r ⌝ }
 {
     let places = list.len() / Record::NUMBERS;
@@ -139,7 +140,7 @@ pub extern "C" fn tumghavi_step_in(
     tell(longs, words, list, m)
 }
 
-// The fields of a record's bytes; bytes of another size are no record.
+// The fields of a record's bytes. Bytes of another size are no record and read as none of them: kind 0, which is refused.
 fn record_of(p: &[u8]) -> Fields
     ensures { λ r. ⌜ fieldsOf r ≡ recordOf (now (p .entry)) ⌝ }
 {

@@ -21,7 +21,8 @@ same-length-3 c = search needs
 returns : tie.Need-returns
 returns c =
     let A = c .before .before .before .before .before .before .before in
-    told _ _ _ _ _ _ _ (A .answer-of .result) _ (A .answer-of .ensures) (c .numbers-of .ensures)
+    let S = A .before .before .before .before .before .before .before in
+    told _ _ _ _ _ _ _ (A .answer-of .result) _ (S .pre) (A .answer-of .ensures) (c .numbers-of .ensures)
 
 pub tell-spec : {M : Type 1} → statement M
 tell-spec =
