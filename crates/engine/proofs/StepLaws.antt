@@ -4,7 +4,7 @@ use mathlib.Core.Bool.{Bool, true, false}
 use mathlib.Core.List.{List, [], _∷_, _++_}
 use Prim.Native.Nat.{ℕ, _+_, _*_, _≤_, _<_, min}
 use native.Mathlib.Omega.{arith}
-use borrow.Author.Tests.{ltb-false, eq-eqb}
+use borrow.Author.Tests.{ltb-false}
 use lib.Dec.{ltb}
 use lib.ListN.{length, getD, set, length-set}
 use lib.Seq.{getD-set-same, getD-set-other}
@@ -19,7 +19,7 @@ use Rattle.rules.proofs.RowLaws.{isNumbered, NoneOf, none-of}
 use Rattle.state.specs.Layout as L
 use Rattle.state.specs.View.{flag, auctionOf, strategyOf, marketOf, entriesOf, stateOf}
 use Rattle.state.proofs.StoreLaws.{kept-all, kept-set}
-use Rattle.state.proofs.StateLaws.{clock-alone}
+use Rattle.state.proofs.StateLaws.{clock-alone, sized-is}
 use Rattle.records.specs.Records.{width}
 use Rattle.engine.specs.Steps.{placesIn}
 
@@ -32,7 +32,7 @@ no-places s m = refl
 
 -- the places of a list with room for 2,000 records
 pub all-places : (longs words list : List ℕ) → L.Sized longs words → leastRoom * width ≤ length list → placesIn longs words list leastRoom ≡ leastRoom
-all-places longs words list (a, b) h = rw (eq-eqb (length longs) 70 a, eq-eqb (length words) 580 b) (omega arith)
+all-places longs words list s h = rw (sized-is longs words s) (omega arith)
 
 first-row : (rs ts : List Rule) → isNumbered rs ≡ true → firstOf (rs ++ ts) ≡ 0 → firstOf rs ≡ 0
 first-row [] ts n h = refl

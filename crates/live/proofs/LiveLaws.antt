@@ -16,6 +16,7 @@ use Rattle.rules.specs.Run.{Opened, refusedOpening, started, opening}
 use Rattle.rules.proofs.BasicsLaws.{all-append}
 use Rattle.state.specs.Layout.{Sized, isSized}
 use Rattle.state.specs.View.{stateOf}
+use Rattle.state.proofs.StateLaws.{sized-is}
 use Rattle.tape.specs.View.{strategyFrom}
 use Rattle.opening.specs.Opens.{Opens}
 use Rattle.text.specs.Outputs.{Puts}
@@ -172,7 +173,7 @@ stateOr t (started s) = s
 
 module _ (longs words longs₁ words₁ head : List ℕ) (r : ℕ) (fits : Sized longs words) (o : Opens longs words (strategyFrom headerBytes head) r longs₁ words₁) where
   sized : isSized longs words ≡ true
-  sized = rw (eq-eqb (length longs) 70 (fits .0), eq-eqb (length words) 580 (fits .1)) refl
+  sized = sized-is longs words fits
 
   -- accepted: the records' run begins with its state
   pub run-opened : (longs′ words′ : List ℕ) (n : Total) → r ≡ 0 → Lived (stateOf longs₁ words₁) (stateOf longs′ words′) n → IsRun longs words longs′ words′ head n
@@ -193,5 +194,5 @@ module _ (longs words longs₁ words₁ head : List ℕ) (r : ℕ) (fits : Sized
           let same = o .refused (omega (arith, eqb-false r 0 e)) in
           record {
             opened = λ s q. absurd (true≢false (sym (ap isStarted (a ∙ q))));
-            refused = λ k q. (same .0, same .1, refl);
+            refused = λ k q. (same .0, same .1, refl, refl);
           }

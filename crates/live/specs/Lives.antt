@@ -72,7 +72,7 @@ pub record Lived (s s′ : State) (r : Total) : Type 0 where
 -- an opening and the records behind it
 pub record IsRun (longs words longs′ words′ head : List ℕ) (r : Total) : Type 0 where
   pub opened : (s : State) → opening (strategyFrom headerBytes head) ≡ started s → Lived s (stateOf longs′ words′) r
-  pub refused : (k : ℕ) → opening (strategyFrom headerBytes head) ≡ refusedOpening k → (longs′ ≡ longs) × (words′ ≡ words) × (r .records ≡ 0)
+  pub refused : (k : ℕ) → opening (strategyFrom headerBytes head) ≡ refusedOpening k → (longs′ ≡ longs) × (words′ ≡ words) × (r .records ≡ 0) × (r .bytes ≡ 0)
 
 -- ---- the same said of the lent slices, for contracts
 

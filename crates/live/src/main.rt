@@ -78,22 +78,25 @@ fn blank_input() -> [u8; 65_520]
 
 // ---- what is written
 
-// The first n bytes of a line; whether all were taken.
-fn say(line: &[u8], n: usize) -> bool
-    requires { ⌜ n ≤ length (now line) ⌝ }
-{
-    io::write_all(STDOUT_FILENO, &line[..n])
-}
-
+// The answer to an opening; whether the system took it.
 fn say_opening(number: u32) -> bool {
     let mut line = [0u8; 128];
     let n = text::put_opening(&mut line, number);
-    say(&line, n)
+    io::write_all(STDOUT_FILENO, &line[..n])
 }
 
 // The input ends inside the header, the legs or a record.
 fn say_incomplete() {
     io::write_all(STDOUT_FILENO, b"incomplete\n");
+}
+
+// All of a part of a page; so many bytes were handed over before it.
+fn hand_over(part: &[u8], before: u64) -> Handed
+    ensures { λ r. ⌜ r .bytes ≡ counted (before + length (now (part .entry))) ⌝ }
+{
+    let taken = io::write_all(STDOUT_FILENO, part);
+    let bytes = number::count_up(before, part.len());
+    Handed { bytes, taken }
 }
 
 // ---- the opening
@@ -149,15 +152,6 @@ fn read_behind(input: &mut [u8], left: usize) -> usize
     ensures { λ r. ⌜ Reads input left r ⌝ }
 {
     read_some(&mut input[left..])
-}
-
-// All of a part of a page; so many bytes were handed over before it.
-fn hand_over(part: &[u8], before: u64) -> Handed
-    ensures { λ r. ⌜ r .bytes ≡ counted (before + length (now (part .entry))) ⌝ }
-{
-    let taken = io::write_all(STDOUT_FILENO, part);
-    let bytes = number::count_up(before, part.len());
-    Handed { bytes, taken }
 }
 
 // The whole records of an input, answered through a page, which is handed to the system when it is half full and behind the last record.
