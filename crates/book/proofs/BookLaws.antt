@@ -50,7 +50,7 @@ entry-turned longs l m i u t h below between eu et =
     )
 
 -- another count shows other places of the same columns
-counted : (longs words : List ℕ) (n : ℕ) → WordsSized words → n ≤ 64 → entriesOf longs (set words L.count n) ≡ from (entryAt longs words) 0 n
+pub counted : (longs words : List ℕ) (n : ℕ) → WordsSized words → n ≤ 64 → entriesOf longs (set words L.count n) ≡ from (entryAt longs words) 0 n
 counted longs words n s h =
     let e : openCount (set words L.count n) ≡ n = omega (arith, getD-set-same words L.count n 0 (omega arith)) in
     let other : (j : ℕ) → j < L.count → getD (set words L.count n) j 0 ≡ getD words j 0 = λ j q. getD-set-other words L.count j n 0 (λ (z : j ≡ L.count). omega arith) in
@@ -60,7 +60,7 @@ counted longs words n s h =
 
 -- ---- an entry more
 
-put-sized : (longs words : List ℕ) (k : ℕ) (e : S.Entry) → Sized longs words → Sized (putLongs longs k e) (putWords words k e)
+pub put-sized : (longs words : List ℕ) (k : ℕ) (e : S.Entry) → Sized longs words → Sized (putLongs longs k e) (putWords words k e)
 put-sized longs words k e s = (stores-length longs (columns L.arrivals k (e .arrival ∷ [])) ∙ s .0, stores-length words (columns L.ids k (entryWords e)) ∙ s .1)
 
 module _ (longs words : List ℕ) (e : S.Entry) where
@@ -84,7 +84,7 @@ module _ (longs words : List ℕ) (e : S.Entry) where
 -- ---- who stays
 
 -- those before the first that leaves are kept as they stand
-only-front : (f : ℕ → Entry) (p : Entry → Bool) (n w : ℕ) → w ≤ n → ((i : ℕ) → i < w → p (f i) ≡ true) → from f 0 w ++ only p (from f w n) ≡ only p (from f 0 n)
+pub only-front : (f : ℕ → Entry) (p : Entry → Bool) (n w : ℕ) → w ≤ n → ((i : ℕ) → i < w → p (f i) ≡ true) → from f 0 w ++ only p (from f w n) ≡ only p (from f 0 n)
 unfolding upto
 only-front f p n zero h a = refl
 only-front f p n (suc w) h a =
@@ -124,7 +124,7 @@ module _ (flags : List Bool) (a l : List ℕ) (n : ℕ) (z : n ≤ 64) where
             ∙ ap (λ (es : List Entry). from (entryAt b m) 0 w ++ es) (only-step (entryAt a l) k n p h) ∙ g .made p f);
       }
 
-  pub going-end : (b m : List ℕ) (w k : ℕ) → Going flags a l b m n w k → n ≤ k → w ≤ n → n ≡ openCount l → KeptBy flags a l b (set m L.count w)
+  pub going-end : (b m : List ℕ) (w k : ℕ) → Going flags a l b m n w k → n ≤ k → w ≤ n → n ≡ openCount l → KeptBy (λ i. getD flags i false) a l b (set m L.count w)
   going-end b m w k g h o c =
       record {
         longs = g .longs;

@@ -33,7 +33,7 @@ released-in a l m t h =
     ∙ sym (released-upto (entryAt a l) 0 (openCount l - 0)))
 
 -- the orders, then released
-pub closed-by : (a l b m n : List ℕ) (flags : List Bool) → ((i : ℕ) → i < openCount l → getD flags i false ≡ not (isResponse (stageOf (getD l (L.stages + i) 0)))) → KeptBy flags a l b m
+pub closed-by : (a l b m n : List ℕ) (flags : List Bool) → ((i : ℕ) → i < openCount l → getD flags i false ≡ not (isResponse (stageOf (getD l (L.stages + i) 0)))) → KeptBy (λ i. getD flags i false) a l b m
     → Kept L.stages L.count m n → ((i : ℕ) → i < openCount m → stageOf (getD n (L.stages + i) 0) ≡ released (stageOf (getD m (L.stages + i) 0)))
     → stateOf b n ≡ withBook (stateOf a l) (releasedAll (expired (entriesOf a l)))
 closed-by a l b m n flags f r t h =

@@ -4,5 +4,7 @@ pub mod ScanLaws
 mod PlaceLaws
 mod PassLaws
 mod BookLaws
+mod GapLaws
+mod QueueLaws
 mod SettleLaws
 mod CloseLaws

@@ -7,7 +7,7 @@ use native.Mathlib.Omega.{arith}
 use lib.Dec.{eqb}
 use lib.ListN.{length}
 use Rattle.rules.specs.Basics.{pick}
-use Rattle.rules.specs.Book.{Entry, Found, nobody, found, find, any, count, unitsIf, only, putByPrice, byPrice, better, isQueued, isResponse}
+use Rattle.rules.specs.Book.{Entry, Found, nobody, found, find, any, count, unitsIf, only, without, putByPrice, byPrice, better, isQueued, isResponse}
 use Rattle.rules.specs.Refusals.{isOrder}
 use Rattle.rules.specs.Auction.{queue, firstIn, beatsFound}
 use Rattle.types.specs.View.{from}
@@ -53,6 +53,16 @@ module _ (f : ℕ → Entry) (k n : ℕ) where
     unfolding only
     only-end h = rw (from-end f k n h)
 
+-- nobody is under the id, so that nobody leaves
+pub without-nobody : (i : ℕ) (es : List Entry) → find i es ≡ nobody → without i es ≡ es
+unfolding find only
+without-nobody i [] h = refl
+without-nobody i (e ∷ es) h = by (eqb (e .id) i) h (without-nobody i es)
+  where
+    by : (b : Bool) → pick b (found e) (find i es) ≡ nobody → (find i es ≡ nobody → without i es ≡ es) → pick (not b) (e ∷ without i es) (without i es) ≡ e ∷ es
+    by true q r = let z : _≡_ {A = ℕ} 0 1 = cc in absurd (omega arith)
+    by false q r = ap (λ (t : List Entry). e ∷ t) (r q)
+
 -- ---- whether one meets a condition
 
 -- what was seen so far, with what is left, is all
@@ -65,6 +75,11 @@ module _ (p : Entry → Bool) (f : ℕ → Entry) (k n : ℕ) (b : Bool) (s : Se
 
   pub seen-end : n ≤ k → b ≡ any p (from f 0 n)
   seen-end h = sym (or-false b) ∙ ap (λ (es : List Entry). b || any p es) (sym (from-end f k n h)) ∙ s
+
+-- nothing seen before, and nothing now
+pub neither : (b x : Bool) → (b || x) ≡ false → (b ≡ false) × (x ≡ false)
+neither true x h = let z : _≡_ {A = ℕ} 0 1 = cc in absurd (omega arith)
+neither false x h = (refl, h)
 
 -- ---- orders and responses
 
@@ -84,7 +99,7 @@ orders-left (e ∷ es) = by (isResponse (e .stage)) (orders-left es)
 abbrev pub frontWith : Entry → Front → Front
 frontWith e a = pick (a .there && better (a .buy) (a .price) (e .price)) a (record { there = true; buy = e .buy; price = e .price })
 
-front-put : (e : Entry) (l : List Entry) → frontWith e (frontOf (firstIn l)) ≡ frontOf (firstIn (putByPrice e l))
+pub front-put : (e : Entry) (l : List Entry) → frontWith e (frontOf (firstIn l)) ≡ frontOf (firstIn (putByPrice e l))
 unfolding putByPrice
 front-put e [] = refl
 front-put e (h ∷ t) = by (better (h .buy) (h .price) (e .price))

@@ -95,12 +95,12 @@ module _ (longs l m n : List ℕ) (gave : List ℕ) (id took stage : ℕ) (p : K
       ∙ after-turn (entryAt longs l i) id took stage (getD gave (i + 1) 0) (getD l (L.stages + i) 0) refl
 
   -- the passes, then the entries with units left
-  pub settled-by : (b k : List ℕ) (flags : List Bool) → ((i : ℕ) → i < openCount n → getD flags i false ≡ not (eqb (getD n (L.units + i) 0) 0)) → KeptBy flags longs n b k
+  pub settled-by : (b k : List ℕ) → KeptBy (λ i. not (eqb (getD n (L.units + i) 0) 0)) longs n b k
       → stateOf b k ≡ withBook (stateOf longs l) (settled id took (stageOf stage) (entriesOf longs l) (drop 1 gave))
-  settled-by b k flags f r =
+  settled-by b k r =
       becomes longs l b k (settled id took (stageOf stage) (entriesOf longs l) (drop 1 gave)) (r .longs)
       (kept-then L.ids L.bids L.ids L.bids L.ids L.bids l n k (omega arith) (omega arith) (omega arith) (omega arith)
       (kept-then L.ids L.bids L.units L.buys L.stages L.count l m n (omega arith) (omega arith) (omega arith) (omega arith) p q) (r .words))
-      (r .entries hasUnits (λ i h. f i h ∙ units-left (getD n (L.units + i) 0))
+      (r .entries hasUnits (λ i h. units-left (getD n (L.units + i) 0))
       ∙ ap (λ (x : ℕ). only hasUnits (from (entryAt longs n) 0 x)) same-count
       ∙ settled-from id took (stageOf stage) (entryAt longs l) gave (entryAt longs n) (openCount l) turned-at (openCount l) 0 (omega arith))

@@ -2,14 +2,17 @@
 use mathlib.Core.Path.{_≡_}
 use mathlib.Core.Bool.{Bool, true, false, _&&_, not}
 use mathlib.Core.List.{List}
-use Prim.Native.Nat.{ℕ, _≤_, _<_}
+use Prim.Native.Nat.{ℕ, _+_, _≤_, _<_}
 use denote.Ref.{now}
+use lib.Dec.{eqb}
 use lib.ListN.{length, take, getD}
 use Rattle.rules.specs.Basics.{pick}
 use Rattle.rules.specs.Filter.{beyond}
-use Rattle.rules.specs.Book.{Entry, Found, nobody, found, sameSide, isLive, isQueued}
+use Rattle.rules.specs.Book.{Entry, Found, nobody, found, sameSide, better, isLive, isQueued}
 use Rattle.rules.specs.State.{State}
 use Rattle.types.specs.View.{from}
+use Rattle.state.specs.Layout as L
+use Rattle.state.specs.View.{openCount}
 use Rattle.state.specs.Lent.{Lent, Tells}
 use Rattle.book.specs.declared.Front.{Front}
 
@@ -23,12 +26,25 @@ isNearLive buy price distance e = isLive (e .stage) && not (sameSide buy (e .buy
 abbrev pub isSought : Bool → Bool → Entry → Bool
 isSought live buy e = pick live (isLive (e .stage) && sameSide buy (e .buy)) (isQueued (e .stage))
 
+-- in the queue, on the other side
+abbrev pub isAcross : Bool → Entry → Bool
+isAcross buy e = isQueued (e .stage) && not (sameSide buy (e .buy))
+
+-- in the queue, at a limit that the price is not strictly better than
+abbrev pub isUnbeaten : Bool → ℕ → Entry → Bool
+isUnbeaten buy price e = isQueued (e .stage) && not (better buy price (e .price))
+
 -- ---- some entries
 
 -- what is kept of the first of a queue
 abbrev pub frontOf : Found → Front
 frontOf nobody = record { there = false; buy = false; price = 0 }
 frontOf (found e) = record { there = true; buy = e .buy; price = e .price }
+
+-- no entry before place k is under the id, and the one there is, if it is open
+pub record FirstUnder (id : ℕ) (words : List ℕ) (k : ℕ) : Type 0 where
+  pub before : (i : ℕ) → i < k → eqb (getD words (L.ids + i) 0) id ≡ false
+  pub here : k < openCount words → eqb (getD words (L.ids + k) 0) id ≡ true
 
 -- each is a place of the book
 abbrev pub Inside : List ℕ → Type 0

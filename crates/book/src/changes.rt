@@ -1,5 +1,6 @@
 // The open orders and responses: what changes them, in place. Each change says what the rules make of the whole state.
 use super::entry_at;
+use super::find;
 use super::is_response;
 use super::one_if;
 use state::Book;
@@ -9,9 +10,9 @@ ghost use mathlib.Core.Path.{_≡_};
 ghost use mathlib.Core.Bool.{true, false, not};
 ghost use Prim.Native.Nat.{ℕ, _+_, _-_, _<_, _≤_};
 ghost use lib.Dec.{eqb};
-ghost use lib.ListN.{getD, drop};
+ghost use lib.ListN.{length, getD, drop};
 ghost use Rattle.rules.specs.Basics.{pick};
-ghost use Rattle.rules.specs.Book.{isResponse, without, expired, released, releasedAll};
+ghost use Rattle.rules.specs.Book.{nobody, found, find, isResponse, without, expired, released, releasedAll};
 ghost use Rattle.rules.specs.State.{withBook};
 ghost use Rattle.rules.specs.Execution.{settled};
 ghost use Rattle.rules.specs.Step.{withNew};
@@ -20,8 +21,9 @@ ghost use Rattle.state.specs.Layout as L;
 ghost use Rattle.state.specs.Layout.{WordsSized, Sized};
 ghost use Rattle.state.specs.View.{entryOf, openCount};
 ghost use Rattle.state.specs.Stores.{Kept, putLongs, putWords};
-ghost use Rattle.state.specs.Lent.{Becomes};
-ghost use Rattle.book.specs.Kept.{KeptBy};
+ghost use Rattle.state.specs.Lent.{TellsBoth, Becomes};
+ghost use Rattle.book.specs.Kept.{KeptBy, Shifted, Columns, Closing};
+ghost use Rattle.book.specs.Questions.{FirstUnder};
 
 // ---- a new entry
 
@@ -72,7 +74,7 @@ fn staying(keep: &[bool; 64], n: usize) -> usize
 // The entries whose flag is set.
 fn compact(longs: &mut [u64], words: &mut [u32], keep: &[bool; 64])
     requires { ⌜ Sized (now longs) (now words) ⌝ }
-    ensures { λ _. ⌜ KeptBy (now (keep .entry)) (now (longs .entry)) (now (words .entry)) (now (longs .exit)) (now (words .exit)) ⌝ }
+    ensures { λ _. ⌜ KeptBy (λ i. getD (now (keep .entry)) i false) (now (longs .entry)) (now (words .entry)) (now (longs .exit)) (now (words .exit)) ⌝ }
 {
     let m = state::open_count(words);
     let mut w = staying(keep, m);
@@ -84,6 +86,21 @@ fn compact(longs: &mut [u64], words: &mut [u32], keep: &[bool; 64])
         k += 1;
     }
     words[Book::COUNT] = w as u32;
+}
+
+// Whether an entry from place k on has the number x in the column that begins at a.
+fn any_from(words: &[u32], a: usize, x: u32, k: usize) -> bool
+    requires { ⌜ WordsSized (now words) × (a ≤ L.stages) ⌝ }
+    ensures { λ r. ⌜ (r ≡ false → (i : ℕ) → k ≤ i → i < openCount (now (words .entry)) → eqb (getD (now (words .entry)) (a + i) 0) x ≡ false) ⌝ }
+{
+    let m = state::open_count(words);
+    let mut seen = false;
+    let mut i = k;
+    while i < m {
+        seen = seen | (words[a + i] == x);
+        i += 1;
+    }
+    seen
 }
 
 // Which entries have another number than x in the column that begins at a.
@@ -101,13 +118,139 @@ fn others(words: &[u32], a: usize, x: u32) -> [bool; 64]
     keep
 }
 
+// ---- one entry leaves
+
+// The four longs behind index a, moved to it.
+fn shift_longs(longs: &mut [u64], a: usize)
+    requires { ⌜ a + 4 < length (now longs) ⌝ }
+    ensures { λ _. ⌜ Shifted a (now (longs .entry)) (now (longs .exit)) ⌝ }
+{
+    let first = longs[a + 1];
+    let second = longs[a + 2];
+    let third = longs[a + 3];
+    let fourth = longs[a + 4];
+    longs[a] = first;
+    longs[a + 1] = second;
+    longs[a + 2] = third;
+    longs[a + 3] = fourth;
+}
+
+// The same for words.
+fn shift_words(words: &mut [u32], a: usize)
+    requires { ⌜ a + 4 < length (now words) ⌝ }
+    ensures { λ _. ⌜ Shifted a (now (words .entry)) (now (words .exit)) ⌝ }
+{
+    let first = words[a + 1];
+    let second = words[a + 2];
+    let third = words[a + 3];
+    let fourth = words[a + 4];
+    words[a] = first;
+    words[a + 1] = second;
+    words[a + 2] = third;
+    words[a + 3] = fourth;
+}
+
+// In all columns of the words the four behind place w, moved there.
+fn shift_columns(words: &mut [u32], w: usize)
+    requires { ⌜ WordsSized (now words) × (w + 4 < 64) ⌝ }
+    ensures { λ _. ⌜ Columns w 7 (now (words .entry)) (now (words .exit)) ⌝ }
+{
+    let mut q = 0;
+    while q < 7 {
+        shift_words(words, q * Book::MOST_ENTRIES + w);
+        q += 1;
+    }
+}
+
+// The entries behind place k moved by one place, four at a time, as long as there are four: where the gap is then.
+fn close_by_fours(longs: &mut [u64], words: &mut [u32], k: usize) -> usize
+    requires { ⌜ Sized (now longs) (now words) × (k < openCount (now words)) ⌝ }
+    ensures { λ r. ⌜ (k ≤ r) × (r < openCount (now (words .entry))) × Closing k r (now (longs .entry)) (now (words .entry)) (now (longs .exit)) (now (words .exit)) ⌝ }
+{
+    let m = state::open_count(words);
+    let mut w = k;
+    while w + 4 < m {
+        shift_longs(longs, w);
+        shift_columns(words, w);
+        w += 4;
+    }
+    w
+}
+
+// The book without the entry at place k: those behind it move by one place.
+fn close_gap(longs: &mut [u64], words: &mut [u32], k: usize)
+    requires { ⌜ Sized (now longs) (now words) × (k < openCount (now words)) ⌝ }
+    ensures { λ _. ⌜ KeptBy (λ i. not (eqb i k)) (now (longs .entry)) (now (words .entry)) (now (longs .exit)) (now (words .exit)) ⌝ }
+{
+    let m = state::open_count(words);
+    let mut w = close_by_fours(longs, words, k);
+    while w + 1 < m {
+        let e = entry_at(longs, words, w + 1);
+        put_entry(longs, words, w, e);
+        w += 1;
+    }
+    words[Book::COUNT] = w as u32;
+}
+
+// The book without the entries under an id, of which the first is at place k; in every state that is reached it is the only one.
+fn remove_from(longs: &mut [u64], words: &mut [u32], id: u32, k: usize)
+    requires { ⌜ Sized (now longs) (now words) × FirstUnder id (now words) k × (k < openCount (now words)) ⌝ }
+    ensures { λ _. ⌜ Becomes longs words (λ s. withBook s (without id (s .book))) ⌝ }
+{
+    if any_from(words, Book::IDS, id, k + 1) {
+        let keep = others(words, Book::IDS, id);
+        compact(longs, words, &keep);
+        return;
+    }
+    close_gap(longs, words, k);
+}
+
 // "Ids are free again once their entry is .. cancelled".
 pub fn remove(longs: &mut [u64], words: &mut [u32], id: u32)
     requires { ⌜ Sized (now longs) (now words) ⌝ }
     ensures { λ _. ⌜ Becomes longs words (λ s. withBook s (without id (s .book))) ⌝ }
 {
-    let keep = others(words, Book::IDS, id);
-    compact(longs, words, &keep);
+    let m = state::open_count(words);
+    let k = find(words, id);
+    if k < m {
+        remove_from(longs, words, id, k);
+    }
+}
+
+// What stands under an id: whether there is an entry, and the entry.
+pub struct Sought {
+    pub there: bool,
+    pub entry: Entry,
+}
+
+// The entry under an id, one of zeros where there is none; and the book without it.
+pub fn take_out(longs: &mut [u64], words: &mut [u32], id: u32) -> Sought
+    requires { ⌜ Sized (now longs) (now words) ⌝ }
+    ensures { λ r. ⌜ TellsBoth longs words (λ s. find id (s .book) ≡ pick (r .there) (found (entryOf (r .entry))) nobody) × Becomes longs words (λ s. withBook s (without id (s .book))) ⌝ }
+{
+    let m = state::open_count(words);
+    let k = find(words, id);
+    if k < m {
+        let e = entry_at(longs, words, k);
+        remove_from(longs, words, id, k);
+        return Sought {
+            there: true,
+            entry: e,
+        };
+    }
+    Sought {
+        there: false,
+        entry: Entry {
+            arrival: 0,
+            id: 0,
+            participant: 0,
+            price: 0,
+            units: 0,
+            buy: 0,
+            customer: 0,
+            stage: 0,
+        },
+    }
 }
 
 // ---- after a turn
@@ -165,6 +308,17 @@ fn restage(words: &mut [u32], id: u32, stage: u32)
     }
 }
 
+// The entries with units left; most often that is all of them.
+fn drop_filled(longs: &mut [u64], words: &mut [u32])
+    requires { ⌜ Sized (now longs) (now words) ⌝ }
+    ensures { λ _. ⌜ KeptBy (λ i. not (eqb (getD (now (words .entry)) (L.units + i) 0) 0)) (now (longs .entry)) (now (words .entry)) (now (longs .exit)) (now (words .exit)) ⌝ }
+{
+    if any_from(words, Book::UNITS, 0, 0) {
+        let keep = others(words, Book::UNITS, 0);
+        compact(longs, words, &keep);
+    }
+}
+
 // The book after the turn of an order: each entry less what it gave, the order less what it took and at its new stage, and none that is filled.
 pub fn settle(
     longs: &mut [u64],
@@ -179,8 +333,7 @@ pub fn settle(
 {
     spend(words, gave, id, took);
     restage(words, id, stage);
-    let keep = others(words, Book::UNITS, 0);
-    compact(longs, words, &keep);
+    drop_filled(longs, words);
 }
 
 // ---- after an auction

@@ -15,16 +15,18 @@ ghost use Rattle.rules.specs.Auction.{inFront, initiator, beatsFound};
 ghost use Rattle.types.specs.View.{stageOf};
 ghost use Rattle.state.specs.Layout.{WordsSized, Sized};
 ghost use Rattle.state.specs.View.{flag, entryOf, entryAt, openCount, entriesOf};
-ghost use Rattle.state.specs.Lent.{Tells, TellsBoth};
-ghost use Rattle.book.specs.Questions.{isNearLive, frontOf};
+ghost use Rattle.state.specs.Lent.{Tells};
+ghost use Rattle.book.specs.Questions.{isNearLive, isAcross, isUnbeaten, frontOf, FirstUnder};
 
 mod changes;
 mod ids;
 
+pub use changes::Sought;
 pub use changes::append;
 pub use changes::close;
 pub use changes::remove;
 pub use changes::settle;
+pub use changes::take_out;
 pub use ids::any_held;
 pub use ids::held_ids;
 pub use ids::live_ids;
@@ -101,7 +103,7 @@ pub fn is_open(words: &[u32], id: u32) -> bool
 // The place of the entry under an id; the number of entries where there is none.
 pub fn find(words: &[u32], id: u32) -> usize
     requires { ⌜ WordsSized (now words) ⌝ }
-    ensures { λ r. ⌜ (r ≤ openCount (now (words .entry))) × ((longs : List ℕ) → find id (entriesOf longs (now (words .entry))) ≡ pick (ltb r (openCount (now (words .entry)))) (found (entryAt longs (now (words .entry)) r)) nobody) ⌝ }
+    ensures { λ r. ⌜ (r ≤ openCount (now (words .entry))) × ((longs : List ℕ) → find id (entriesOf longs (now (words .entry))) ≡ pick (ltb r (openCount (now (words .entry)))) (found (entryAt longs (now (words .entry)) r)) nobody) × FirstUnder id (now (words .entry)) r ⌝ }
 {
     let m = state::open_count(words);
     let mut k = 0;
@@ -138,40 +140,6 @@ fn entry_at(longs: &[u64], words: &[u32], k: usize) -> Entry
         buy: words[Book::BUYS + k],
         customer: words[Book::CUSTOMERS + k],
         stage: words[Book::STAGES + k],
-    }
-}
-
-// What stands under an id: whether there is an entry, and the entry.
-pub struct Sought {
-    pub there: bool,
-    pub entry: Entry,
-}
-
-// The entry under an id, one of zeros where there is none.
-pub fn entry_under(longs: &[u64], words: &[u32], id: u32) -> Sought
-    requires { ⌜ Sized (now longs) (now words) ⌝ }
-    ensures { λ r. ⌜ TellsBoth longs words (λ s. find id (s .book) ≡ pick (r .there) (found (entryOf (r .entry))) nobody) ⌝ }
-{
-    let m = state::open_count(words);
-    let k = find(words, id);
-    if k < m {
-        return Sought {
-            there: true,
-            entry: entry_at(longs, words, k),
-        };
-    }
-    Sought {
-        there: false,
-        entry: Entry {
-            arrival: 0,
-            id: 0,
-            participant: 0,
-            price: 0,
-            units: 0,
-            buy: 0,
-            customer: 0,
-            stage: 0,
-        },
     }
 }
 
@@ -341,6 +309,9 @@ pub fn near_live(words: &[u32], buy: bool, price: u32, distance: u32) -> bool
 
 // ---- the initiator
 
+// The greatest number of a word.
+const MOST_WORD: u64 = 4_294_967_295;
+
 // The first of a queue: whether there is one, its side and its limit.
 struct Front {
     there: bool,
@@ -383,11 +354,61 @@ fn first_queued(words: &[u32]) -> Front
     a
 }
 
-// "Same side, better than the initiator's limit".
+// What the queue is to a price of one side: whether there is an order, whether one is on the other side, and whether the price is not strictly better than one's limit.
+struct Against {
+    there: bool,
+    other: bool,
+    unbeaten: bool,
+}
+
+// What is known so far, with one entry more.
+fn put_against(a: Against, stage: u32, side: u32, limit: u32, buy: bool, price: u32) -> Against
+    ensures { λ r. ⌜ (r .there ≡ (a .there || isQueued (stageOf stage))) × (r .other ≡ (a .other || (isQueued (stageOf stage) && not (sameSide buy (flag side))))) × (r .unbeaten ≡ (a .unbeaten || (isQueued (stageOf stage) && not (better buy price limit)))) ⌝ }
+{
+    let queued = is_queued(stage);
+    Against {
+        there: a.there | queued,
+        other: a.other | (queued & !same_side(buy, state::is_set(side))),
+        unbeaten: a.unbeaten | (queued & !is_better(buy, price as u64, limit as u64)),
+    }
+}
+
+fn queue_against(words: &[u32], buy: bool, price: u32) -> Against
+    requires { ⌜ WordsSized (now words) ⌝ }
+    ensures { λ r. ⌜ Tells words (λ s. (r .there ≡ any (λ e. isQueued (e .stage)) (s .book)) × (r .other ≡ any (isAcross buy) (s .book)) × (r .unbeaten ≡ any (isUnbeaten buy price) (s .book))) ⌝ }
+{
+    let m = state::open_count(words);
+    let mut a = Against {
+        there: false,
+        other: false,
+        unbeaten: false,
+    };
+    let mut k = 0;
+    while k < m {
+        a = put_against(
+            a,
+            words[Book::STAGES + k],
+            words[Book::BUYS + k],
+            words[Book::PRICES + k],
+            buy,
+            price,
+        );
+        k += 1;
+    }
+    a
+}
+
+// "Same side, better than the initiator's limit". Where all of the queue is on that side, as in every state that is reached, it is better than every limit there.
 pub fn beats(words: &[u32], buy: bool, price: u64) -> bool
     requires { ⌜ WordsSized (now words) ⌝ }
     ensures { λ r. ⌜ Tells words (λ s. r ≡ beatsFound buy price (initiator s)) ⌝ }
 {
-    let a = first_queued(words);
-    a.there & is_better(buy, price, a.price as u64)
+    if price <= MOST_WORD {
+        let a = queue_against(words, buy, price as u32);
+        if !a.other {
+            return a.there & !a.unbeaten;
+        }
+    }
+    let f = first_queued(words);
+    f.there & is_better(buy, price, f.price as u64)
 }

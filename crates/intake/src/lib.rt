@@ -4,11 +4,11 @@ ghost use mathlib.Core.Bool.{_&&_};
 ghost use Prim.Native.Nat.{_-_, _≤_};
 ghost use lib.Dec.{leb};
 ghost use lib.ListN.{length};
-ghost use Rattle.rules.specs.Book.{Entry as Open, held, queued, answer, withStage, without};
-ghost use Rattle.rules.specs.State.{Pending, pending, withBook, withAuction};
+ghost use Rattle.rules.specs.Book.{Entry as Open, held, queued, answer, withStage};
+ghost use Rattle.rules.specs.State.{Pending, pending, withAuction};
 ghost use Rattle.rules.specs.Auction.{eligible, auctionOf as beginning, endsByOrder, joins, endsByLegs};
 ghost use Rattle.rules.specs.Messages.{local, national, order, response, modify, cancel, clock};
-ghost use Rattle.rules.specs.Step.{entryOf as newEntry, modifiedEntry, withNew, takeIn};
+ghost use Rattle.rules.specs.Step.{entryOf as newEntry, modifiedEntry, takeIn};
 ghost use Rattle.types.specs.View.{orderTerms, responseTerms, changeOf, localOf, nationalOf, bodyOf};
 ghost use Rattle.state.specs.Layout.{Sized, LongsSized, WordsSized};
 ghost use Rattle.state.specs.View.{entryOf, clockOf, stateOf};
@@ -278,24 +278,15 @@ fn response_in(longs: &mut [u64], words: &mut [u32], t: Response) -> u8
     Act::GOES_ON
 }
 
-// The entry under an id replaced by a new one, the last to have arrived.
-fn replace(longs: &mut [u64], words: &mut [u32], id: u32, e: Entry)
-    requires { ⌜ Sized (now longs) (now words) ⌝ }
-    ensures { λ _. ⌜ Becomes longs words (λ s. withNew (withBook s (without id (s .book))) (entryOf e)) ⌝ }
-{
-    book::remove(longs, words, id);
-    book::append(longs, words, e);
-}
-
 // A modification of a response.
 fn modify_in(longs: &mut [u64], words: &mut [u32], t: Modify) -> u8
     requires { ⌜ Sized (now longs) (now words) ⌝ }
     ensures { λ r. ⌜ TakesIn longs words r (λ s. takeIn s (modify (changeOf t))) ⌝ }
 {
-    let f = book::entry_under(longs, words, t.id);
+    let number = number_of(longs);
+    let f = book::take_out(longs, words, t.id);
     if f.there {
-        let e = modified_entry(t, number_of(longs), f.entry);
-        replace(longs, words, t.id, e);
+        book::append(longs, words, modified_entry(t, number, f.entry));
     }
     Act::GOES_ON
 }

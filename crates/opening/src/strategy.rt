@@ -5,25 +5,26 @@ use types::Leg;
 use types::Opening;
 use types::Settings;
 ghost use mathlib.Core.Path.{_≡_};
+ghost use mathlib.Core.Bool.{_&&_};
 ghost use Prim.Native.Nat.{_+_, _≤_, _<_};
 ghost use Rattle.rules.specs.Basics.{all, between};
-ghost use Rattle.rules.specs.Strategy.{goodSide, goodMpv, allPairs, nearRatio, gcd, gcdAll, goodRatios, goodSettings, openingRefusal};
+ghost use Rattle.rules.specs.Strategy.{goodSide, goodMpv, allPairs, nearRatio, gcd, gcdAll, goodSettings, openingRefusal};
 ghost use Rattle.types.specs.View.{legOf, legAt, settingsOf, openingOf, from};
-ghost use Rattle.opening.specs.Asked.{keepsOf, holdsOf};
+ghost use Rattle.opening.specs.Asked.{LegMarked, PairMarked};
 
 // What the table asks of each leg: number 2, 3, 5 and 6.
-enum LegRule {
-    Symbol,
-    Date,
-    Ratio,
-    SideAndMpv,
+struct LegMarks {
+    symbol: bool,
+    date: bool,
+    ratio: bool,
+    sides: bool,
 }
 
 // What it asks of each two legs: number 4, twice, and 5.
-enum PairRule {
-    Root,
-    Symbol,
-    Ratio,
+struct PairMarks {
+    root: bool,
+    symbol: bool,
+    ratio: bool,
 }
 
 // "Ratios are 1 to 9".
@@ -47,29 +48,47 @@ fn good_mpv(mpv: u8) -> bool
     (mpv == Leg::CENT) | ((mpv == Leg::NICKEL) | (mpv == Leg::DIME))
 }
 
-// Whether a leg keeps a rule.
-fn keeps(leg: Leg, rule: LegRule) -> bool
-    ensures { λ r. ⌜ r ≡ keepsOf rule (legOf leg) ⌝ }
+// What a leg keeps of it.
+fn keeps(leg: Leg) -> LegMarks
+    ensures { λ r. ⌜ LegMarked (λ b p. b ≡ p (legOf leg)) r ⌝ }
 {
     let symbol = leg.symbol;
-    match rule {
-        LegRule::Symbol => series::good_symbol(symbol),
-        LegRule::Date => series::dated(symbol),
-        LegRule::Ratio => good_ratio(leg.ratio),
-        LegRule::SideAndMpv => good_side(leg.side) & good_mpv(leg.mpv),
+    let j = series::judge(symbol);
+    LegMarks {
+        symbol: j.good,
+        date: j.dated,
+        ratio: good_ratio(leg.ratio),
+        sides: good_side(leg.side) & good_mpv(leg.mpv),
     }
 }
 
-// Whether all legs keep it.
-fn all_keep(o: Opening, rule: LegRule) -> bool
+// What both keep.
+fn both_keep(a: LegMarks, b: LegMarks) -> LegMarks
+    ensures { λ r. ⌜ (r .symbol ≡ (a .symbol && b .symbol)) × (r .date ≡ (a .date && b .date)) × (r .ratio ≡ (a .ratio && b .ratio)) × (r .sides ≡ (a .sides && b .sides)) ⌝ }
+{
+    LegMarks {
+        symbol: a.symbol & b.symbol,
+        date: a.date & b.date,
+        ratio: a.ratio & b.ratio,
+        sides: a.sides & b.sides,
+    }
+}
+
+// What all legs keep.
+fn all_keep(o: Opening) -> LegMarks
     requires { ⌜ o .count ≤ 4 ⌝ }
-    ensures { λ r. ⌜ r ≡ all (keepsOf rule) (openingOf o .legs) ⌝ }
+    ensures { λ r. ⌜ LegMarked (λ b p. b ≡ all p (openingOf o .legs)) r ⌝ }
 {
     let count = o.count;
-    let mut all = true;
+    let mut all = LegMarks {
+        symbol: true,
+        date: true,
+        ratio: true,
+        sides: true,
+    };
     let mut at: usize = 0;
     while at < count {
-        all = all & keeps(o.legs[at], rule);
+        all = both_keep(all, keeps(o.legs[at]));
         at += 1;
     }
     all
@@ -84,45 +103,64 @@ fn near(a: Leg, b: Leg) -> bool
     (first <= Leg::MOST_TIMES * second) & (second <= Leg::MOST_TIMES * first)
 }
 
-// Whether a rule holds between two legs.
-fn holds(a: Leg, b: Leg, rule: PairRule) -> bool
-    ensures { λ r. ⌜ r ≡ holdsOf rule (legOf a) (legOf b) ⌝ }
+// What holds between two legs.
+fn holds(a: Leg, b: Leg) -> PairMarks
+    ensures { λ r. ⌜ PairMarked (λ t q. t ≡ q (legOf a) (legOf b)) r ⌝ }
 {
     let first = a.symbol;
     let second = b.symbol;
-    match rule {
-        PairRule::Root => series::same_root(first, second),
-        PairRule::Symbol => !series::same_symbol(first, second),
-        PairRule::Ratio => near(a, b),
+    PairMarks {
+        root: series::same_root(first, second),
+        symbol: !series::same_symbol(first, second),
+        ratio: near(a, b),
     }
 }
 
-// Whether it holds between a leg and all later ones.
-fn later_hold(o: Opening, place: usize, rule: PairRule) -> bool
+// What holds in both.
+fn both_hold(a: PairMarks, b: PairMarks) -> PairMarks
+    ensures { λ r. ⌜ (r .root ≡ (a .root && b .root)) × (r .symbol ≡ (a .symbol && b .symbol)) × (r .ratio ≡ (a .ratio && b .ratio)) ⌝ }
+{
+    PairMarks {
+        root: a.root & b.root,
+        symbol: a.symbol & b.symbol,
+        ratio: a.ratio & b.ratio,
+    }
+}
+
+// What holds between a leg and all later ones.
+fn later_hold(o: Opening, place: usize) -> PairMarks
     requires { ⌜ (place < o .count) × (o .count ≤ 4) ⌝ }
-    ensures { λ r. ⌜ r ≡ all (holdsOf rule (legAt o place)) (from (legAt o) (place + 1) (o .count)) ⌝ }
+    ensures { λ r. ⌜ PairMarked (λ b q. b ≡ all (q (legAt o place)) (from (legAt o) (place + 1) (o .count))) r ⌝ }
 {
     let count = o.count;
     let leg = o.legs[place];
-    let mut all = true;
+    let mut all = PairMarks {
+        root: true,
+        symbol: true,
+        ratio: true,
+    };
     let mut at = place + 1;
     while at < count {
-        all = all & holds(leg, o.legs[at], rule);
+        all = both_hold(all, holds(leg, o.legs[at]));
         at += 1;
     }
     all
 }
 
-// Whether it holds between every two legs.
-fn pairs_hold(o: Opening, rule: PairRule) -> bool
+// What holds between every two legs.
+fn pairs_hold(o: Opening) -> PairMarks
     requires { ⌜ o .count ≤ 4 ⌝ }
-    ensures { λ r. ⌜ r ≡ allPairs (holdsOf rule) (openingOf o .legs) ⌝ }
+    ensures { λ r. ⌜ PairMarked (λ b q. b ≡ allPairs q (openingOf o .legs)) r ⌝ }
 {
     let count = o.count;
-    let mut all = true;
+    let mut all = PairMarks {
+        root: true,
+        symbol: true,
+        ratio: true,
+    };
     let mut at: usize = 0;
     while at < count {
-        all = all & later_hold(o, at, rule);
+        all = both_hold(all, later_hold(o, at));
         at += 1;
     }
     all
@@ -147,14 +185,6 @@ fn gcd_all(o: Opening) -> u8
         divisor = gcd(o.legs[at].ratio, divisor);
     }
     divisor
-}
-
-// Number 5's condition.
-fn good_ratios(o: Opening) -> bool
-    requires { ⌜ o .count ≤ 4 ⌝ }
-    ensures { λ r. ⌜ r ≡ goodRatios (openingOf o .legs) ⌝ }
-{
-    all_keep(o, LegRule::Ratio) & pairs_hold(o, PairRule::Ratio) & (gcd_all(o) == 1)
 }
 
 // Number 7's condition.
@@ -190,19 +220,21 @@ pub fn refusal(o: Opening) -> u32
     if !good_count(o.count) {
         return 1;
     }
-    if !all_keep(o, LegRule::Symbol) {
+    let legs = all_keep(o);
+    if !legs.symbol {
         return 2;
     }
-    if !all_keep(o, LegRule::Date) {
+    if !legs.date {
         return 3;
     }
-    if !(pairs_hold(o, PairRule::Root) & pairs_hold(o, PairRule::Symbol)) {
+    let pairs = pairs_hold(o);
+    if !(pairs.root & pairs.symbol) {
         return 4;
     }
-    if !good_ratios(o) {
+    if !(legs.ratio & pairs.ratio & (gcd_all(o) == 1)) {
         return 5;
     }
-    if !all_keep(o, LegRule::SideAndMpv) {
+    if !legs.sides {
         return 6;
     }
     if !good_settings(o.settings) {

@@ -108,23 +108,34 @@ fn good_strike(symbol: [u8; 21]) -> bool
 }
 
 // Whether a symbol is well formed.
-pub fn good_symbol(symbol: [u8; 21]) -> bool
+fn good_symbol(symbol: [u8; 21]) -> bool
     ensures { λ r. ⌜ r ≡ goodSymbol symbol ⌝ }
 {
     good_root(symbol) & good_date(symbol) & good_type(symbol) & good_strike(symbol)
 }
 
-// Whether a symbol is well formed and its date "the third Friday of its month".
-pub fn dated(symbol: [u8; 21]) -> bool
-    ensures { λ r. ⌜ r ≡ (goodSymbol symbol && onThirdFriday symbol) ⌝ }
+// Whether a symbol is well formed, and whether it is so with its date "the third Friday of its month".
+pub struct Judged {
+    pub good: bool,
+    pub dated: bool,
+}
+
+pub fn judge(symbol: [u8; 21]) -> Judged
+    ensures { λ r. ⌜ (r .good ≡ goodSymbol symbol) × (r .dated ≡ (goodSymbol symbol && onThirdFriday symbol)) ⌝ }
 {
     if !good_symbol(symbol) {
-        return false;
+        return Judged {
+            good: false,
+            dated: false,
+        };
     }
     let year = pair(symbol, 6);
     let month = pair(symbol, 8);
     let day = pair(symbol, 10);
-    calendar::is_third_friday(year * 12 + (month - 1), day)
+    Judged {
+        good: true,
+        dated: calendar::is_third_friday(year * 12 + (month - 1), day),
+    }
 }
 
 // Whether two symbols are the same.

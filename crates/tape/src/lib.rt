@@ -193,18 +193,25 @@ const CLOCK: Uses = Uses {
 // "A table of seven rows says which fields each kind uses".
 const KINDS: [Uses; 7] = [LOCAL, NATIONAL, ORDER, RESPONSE, MODIFY, CANCEL, CLOCK];
 
-// The row of a kind. A kind above 7 uses nothing; 0 is no kind either, and reads the first row.
+// The row of a kind. A kind above 7 uses nothing; 0 is no kind either, and reads the first row. Each arm names its row, so that no table is laid out to look it up.
 pub fn uses_of(kind: u8) -> Uses
     ensures { λ r. ⌜ usesOf r ≡ usesIn kind ⌝ }
 {
     let rows = KINDS;
-    if kind < Uses::LEAST_KIND {
+    if kind <= Uses::LEAST_KIND {
         return rows[0];
     }
-    if kind <= Uses::MOST_KIND {
-        return rows[(kind - Uses::LEAST_KIND) as usize];
+    if Uses::MOST_KIND < kind {
+        return CLOCK;
     }
-    CLOCK
+    match kind {
+        2 => rows[1],
+        3 => rows[2],
+        4 => rows[3],
+        5 => rows[4],
+        6 => rows[5],
+        _ => rows[6],
+    }
 }
 
 // ---- messages

@@ -1,9 +1,25 @@
 // Document 01, "Tape": "Little-endian", "prices signed". Numbers at an offset of a lent slice; a byte past its end is 0.
 ghost use mathlib.Core.Path.{_≡_};
-ghost use Prim.Native.Nat.{_+_, _<_, _^_};
+ghost use Prim.Native.Nat.{_+_, _*_, _<_, _^_};
 ghost use lib.IntN.{negsuc};
 ghost use lib.ListN.{getD};
 ghost use Rattle.rules.specs.Tape.{half, word, long, signed};
+
+// ---- of bytes, the low one first
+
+fn half_of(low: u8, high: u8) -> u16
+    ensures { λ r. ⌜ r ≡ low + 256 * high ⌝ }
+{
+    (low as u16) + 256 * (high as u16)
+}
+
+fn word_of(a: u8, b: u8, c: u8, d: u8) -> u32
+    ensures { λ r. ⌜ r ≡ a + 256 * b + 65536 * (c + 256 * d) ⌝ }
+{
+    let low = half_of(a, b) as u32;
+    let high = half_of(c, d) as u32;
+    low + 65_536 * high
+}
 
 // ---- at an offset that leaves room for the bytes behind it
 
@@ -16,21 +32,27 @@ fn byte_in(s: &[u8], at: usize) -> u8
     0
 }
 
+// Where all bytes of a number are inside, one test serves for them.
 fn half_in(s: &[u8], at: usize) -> u16
     requires { ⌜ at + 1 < 2 ^ 64 ⌝ }
     ensures { λ r. ⌜ r ≡ half (now (s .entry)) at ⌝ }
 {
-    let low = byte_in(s, at) as u16;
-    let high = byte_in(s, at + 1) as u16;
-    low + 256 * high
+    if at + 1 < s.len() {
+        return half_of(s[at], s[at + 1]);
+    }
+    half_of(byte_in(s, at), byte_in(s, at + 1))
 }
 
 fn word_in(s: &[u8], at: usize) -> u32
     requires { ⌜ at + 3 < 2 ^ 64 ⌝ }
     ensures { λ r. ⌜ r ≡ word (now (s .entry)) at ⌝ }
 {
+    let behind = at + 2;
+    if behind + 1 < s.len() {
+        return word_of(s[at], s[at + 1], s[behind], s[behind + 1]);
+    }
     let low = half_in(s, at) as u32;
-    let high = half_in(s, at + 2) as u32;
+    let high = half_in(s, behind) as u32;
     low + 65_536 * high
 }
 

@@ -1,15 +1,17 @@
-use mathlib.Core.Bool.{not}
-use lib.Dec.{eqb}
-use Rattle.book.proofs.BookLaws.{becomes}
+use borrow.Author.Tests.{le-ltb}
+use Rattle.book.proofs.GapLaws.{nobody-leaves}
 use borrow.Author.Needs.{needs}
 use Rattle.book.proofs.changes.remove.Statement.{statement}
 use Rattle.book.proofs.changes.remove.Tie as tie
 
-others-requires : tie.Need-others-requires
-others-requires c κs = search needs
+open-count-requires : tie.Need-open-count-requires
+open-count-requires c κs = search needs
 
-compact-requires : tie.Need-compact-requires
-compact-requires c κs = search needs
+find-requires : tie.Need-find-requires
+find-requires c κs = search needs
+
+remove-from-requires : tie.Need-remove-from-requires
+remove-from-requires c κs = search needs
 
 same-length : tie.Need-same-length
 same-length c = search needs
@@ -18,13 +20,26 @@ same-length-2 : tie.Need-same-length-2
 same-length-2 c = search needs
 
 returns : tie.Need-returns
-returns c =
-    let K = c .before .before .before .before in
-    let O = K .before .before .before .before in
-    let a = O .before .before .before .before .args in
-    let k = K .compact .ensures in
-    becomes (a .longs .now) (a .words .now) (K .compact .last .0) (K .compact .last .1 .0) _ (k .longs) (k .words) (k .entries (λ e. not (eqb (e .id) (a .id))) (O .others .ensures))
+returns c = search needs
+
+same-length-3 : tie.Need-same-length-3
+same-length-3 c = search needs
+
+returns-2 : tie.Need-returns-2
+returns-2 c =
+    let F = c .before in
+    let a = F .before .before .before .before .before .before .args in
+    nobody-leaves (a .longs .now) (a .words .now) (a .id) (rw (F .find .ensures .1 (a .longs .now), ← F .before .before .open-count .ensures, le-ltb _ _ (c .if1 .left)))
 
 pub remove-spec : {M : Type 1} → statement M
 remove-spec =
-    tie.close (tie.spec others-requires compact-requires same-length same-length-2 returns)
+    tie.close
+    (tie.spec
+    open-count-requires
+    find-requires
+    remove-from-requires
+    same-length
+    same-length-2
+    returns
+    same-length-3
+    returns-2)

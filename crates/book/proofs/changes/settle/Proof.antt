@@ -9,11 +9,8 @@ spend-requires c κs = search needs
 restage-requires : tie.Need-restage-requires
 restage-requires c κs = search needs
 
-others-requires : tie.Need-others-requires
-others-requires c κs = search needs
-
-compact-requires : tie.Need-compact-requires
-compact-requires c κs = search needs
+drop-filled-requires : tie.Need-drop-filled-requires
+drop-filled-requires c κs = search needs
 
 same-length : tie.Need-same-length
 same-length c = search needs
@@ -23,13 +20,12 @@ same-length-2 c = search needs
 
 returns : tie.Need-returns
 returns c =
-    let K = c .before .before .before .before in
-    let O = K .before .before .before .before in
-    let R = O .before .before .before .before in
+    let D = c .before .before .before .before in
+    let R = D .before .before .before .before .before in
     let S = R .before .before .before .before in
     let a = S .before .before .before .before .args in
     settled-by (a .longs .now) (a .words .now) (S .spend .last .0) (R .restage .last .0) (a .gave .now) (a .id) (a .took) (a .stage) (S .spend .ensures .0) (R .restage .ensures .0) (S .spend .ensures .1) (R .restage .ensures .1)
-    (K .compact .last .0) (K .compact .last .1 .0) (O .others .result) (O .others .ensures) (K .compact .ensures)
+    (D .drop-filled .last .0) (D .drop-filled .last .1 .0) (D .drop-filled .ensures)
 
 pub settle-spec : {M : Type 1} → statement M
 settle-spec =
@@ -37,8 +33,7 @@ settle-spec =
     (tie.spec
     spend-requires
     restage-requires
-    others-requires
-    compact-requires
+    drop-filled-requires
     same-length
     same-length-2
     returns)

@@ -1,25 +1,24 @@
--- The legs passed all keep the rule, or the answer is already no.
+-- The legs passed all keep it, or the answer is already no.
 use mathlib.Core.Path.{_≡_, refl, sym, _∙_}
 use mathlib.Core.Bool.{_&&_}
 use Prim.Native.Nat.{_-_, _≤_}
 use native.Mathlib.Omega.{arith}
-use borrow.Author.Needs.{needs}
 use Rattle.rules.specs.Basics.{all}
 use Rattle.types.specs.View.{legAt, from}
-use Rattle.opening.specs.Asked.{keepsOf}
+use Rattle.opening.specs.Asked.{isGood, isDated, hasRatio, hasSides, LegMarked}
 use Rattle.opening.proofs.AskLaws.{all-cons, all-end}
+use borrow.Author.Needs.{needs}
 use Rattle.opening.proofs.strategy.all_keep.Statement.{statement}
 use Rattle.opening.proofs.strategy.all_keep.Tie as tie
 
 abbrev Inv-loop : tie.InvT-loop
-Inv-loop rule o count so₀ at₀ so at =
-    (at ≤ count) × ((so && all (keepsOf rule) (from (legAt o) at count)) ≡ all (keepsOf rule) (from (legAt o) 0 count))
+Inv-loop o count so₀ at₀ so at = (at ≤ count) × LegMarked (λ b p. (b && all p (from (legAt o) at count)) ≡ all p (from (legAt o) 0 count)) so
 
 abbrev μ-loop : tie.MeasureT-loop
-μ-loop rule o count so₀ at₀ so at = count - at
+μ-loop o count so₀ at₀ so at = count - at
 
 loop-holds : tie.Need-loop-holds Inv-loop μ-loop
-loop-holds c = (search needs, refl)
+loop-holds c = (search needs, (refl, refl, refl, refl))
 
 mul-keeps : tie.Need-mul-keeps Inv-loop μ-loop
 mul-keeps c = search needs
@@ -30,6 +29,9 @@ element-copy-out-keeps c = search needs
 keeps-requires : tie.Need-keeps-requires Inv-loop μ-loop
 keeps-requires c κs = search needs
 
+both-keep-requires : tie.Need-both-keep-requires Inv-loop μ-loop
+both-keep-requires c κs = search needs
+
 add-at : tie.Need-add-at Inv-loop μ-loop
 add-at c = search needs
 
@@ -38,15 +40,22 @@ loop-less c = search needs
 
 loop-again : tie.Need-loop-again Inv-loop μ-loop
 loop-again c =
-    let L = c .before .before .before in
+    let K = c .before in
+    let L = K .before .before .before in
     let a = L .before .args in
-    (search needs, rw (c .keeps .ensures) (all-cons (legAt (a .t1)) (L .loop .at) (a .t1 .count) (L .loop .all) (keepsOf (a .rule)) (omega arith) ∙ L .loop .inv .1))
+    let k = K .keeps .ensures in
+    let n = c .both-keep .ensures in
+    let so = L .loop .all in
+    let v = L .loop .inv .1 in
+    (search needs, (rw (n .0, k .0) (all-cons (legAt (a .t1)) (L .loop .at) (a .t1 .count) (so .symbol) isGood (omega arith) ∙ v .0), rw (n .1, k .1) (all-cons (legAt (a .t1)) (L .loop .at) (a .t1 .count) (so .date) isDated (omega arith) ∙ v .1), rw (n .2, k .2) (all-cons (legAt (a .t1)) (L .loop .at) (a .t1 .count) (so .ratio) hasRatio (omega arith) ∙ v .2), rw (n .3, k .3) (all-cons (legAt (a .t1)) (L .loop .at) (a .t1 .count) (so .sides) hasSides (omega arith) ∙ v .3)))
 
 returns : tie.Need-returns Inv-loop μ-loop
 returns c =
     let L = c .before in
     let a = L .before .args in
-    sym (all-end (legAt (a .t1)) (L .loop .at) (a .t1 .count) (L .loop .all) (keepsOf (a .rule)) (omega arith)) ∙ L .loop .inv .1
+    let so = L .loop .all in
+    let v = L .loop .inv .1 in
+    (sym (all-end (legAt (a .t1)) (L .loop .at) (a .t1 .count) (so .symbol) isGood (omega arith)) ∙ v .0, sym (all-end (legAt (a .t1)) (L .loop .at) (a .t1 .count) (so .date) isDated (omega arith)) ∙ v .1, sym (all-end (legAt (a .t1)) (L .loop .at) (a .t1 .count) (so .ratio) hasRatio (omega arith)) ∙ v .2, sym (all-end (legAt (a .t1)) (L .loop .at) (a .t1 .count) (so .sides) hasSides (omega arith)) ∙ v .3)
 
 pub all-keep-spec : {M : Type 1} → statement M
 all-keep-spec =
@@ -58,6 +67,7 @@ all-keep-spec =
     mul-keeps
     element-copy-out-keeps
     keeps-requires
+    both-keep-requires
     add-at
     loop-less
     loop-again

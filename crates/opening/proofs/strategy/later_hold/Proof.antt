@@ -3,20 +3,21 @@ use mathlib.Core.Path.{_≡_, refl, sym, _∙_}
 use mathlib.Core.Bool.{_&&_}
 use Prim.Native.Nat.{_+_, _-_, _≤_}
 use native.Mathlib.Omega.{arith}
-use borrow.Author.Needs.{needs}
 use Rattle.rules.specs.Basics.{all}
+use Rattle.rules.specs.Strategy.{sameRoot, otherSymbol, nearRatio}
 use Rattle.types.specs.View.{legAt, from}
-use Rattle.opening.specs.Asked.{holdsOf}
+use Rattle.opening.specs.Asked.{PairMarked}
 use Rattle.opening.proofs.AskLaws.{all-cons, all-end}
+use borrow.Author.Needs.{needs}
 use Rattle.opening.proofs.strategy.later_hold.Statement.{statement}
 use Rattle.opening.proofs.strategy.later_hold.Tie as tie
 
 abbrev Inv-loop : tie.InvT-loop
-Inv-loop place rule o count leg so₀ at₀ so at =
-    (at ≤ count) × ((so && all (holdsOf rule (legAt o place)) (from (legAt o) at count)) ≡ all (holdsOf rule (legAt o place)) (from (legAt o) (place + 1) count))
+Inv-loop place o count leg so₀ at₀ so at =
+    (at ≤ count) × PairMarked (λ b q. (b && all (q (legAt o place)) (from (legAt o) at count)) ≡ all (q (legAt o place)) (from (legAt o) (place + 1) count)) so
 
 abbrev μ-loop : tie.MeasureT-loop
-μ-loop place rule o count leg so₀ at₀ so at = count - at
+μ-loop place o count leg so₀ at₀ so at = count - at
 
 mul-leg : tie.Need-mul-leg Inv-loop μ-loop
 mul-leg c = search needs
@@ -28,7 +29,7 @@ add-at : tie.Need-add-at Inv-loop μ-loop
 add-at c = search needs
 
 loop-holds : tie.Need-loop-holds Inv-loop μ-loop
-loop-holds c = (search needs, refl)
+loop-holds c = (search needs, (refl, refl, refl))
 
 mul-holds : tie.Need-mul-holds Inv-loop μ-loop
 mul-holds c = search needs
@@ -39,6 +40,9 @@ element-copy-out-holds c = search needs
 holds-requires : tie.Need-holds-requires Inv-loop μ-loop
 holds-requires c κs = search needs
 
+both-hold-requires : tie.Need-both-hold-requires Inv-loop μ-loop
+both-hold-requires c κs = search needs
+
 add-at-2 : tie.Need-add-at-2 Inv-loop μ-loop
 add-at-2 c = search needs
 
@@ -47,17 +51,22 @@ loop-less c = search needs
 
 loop-again : tie.Need-loop-again Inv-loop μ-loop
 loop-again c =
-    let L = c .before .before .before in
-    let a = L .before .before .args in (
-      search needs,
-      rw (c .holds .ensures) (all-cons (legAt (a .t1)) (L .loop .at) (a .t1 .count) (L .loop .all) (holdsOf (a .rule) (legAt (a .t1) (a .place))) (omega arith) ∙ L .loop .inv .1),
-    )
+    let H = c .before in
+    let L = H .before .before .before in
+    let a = L .before .before .args in
+    let h = H .holds .ensures in
+    let n = c .both-hold .ensures in
+    let so = L .loop .all in
+    let v = L .loop .inv .1 in
+    (search needs, (rw (n .0, h .0) (all-cons (legAt (a .t1)) (L .loop .at) (a .t1 .count) (so .root) (sameRoot (legAt (a .t1) (a .place))) (omega arith) ∙ v .0), rw (n .1, h .1) (all-cons (legAt (a .t1)) (L .loop .at) (a .t1 .count) (so .symbol) (otherSymbol (legAt (a .t1) (a .place))) (omega arith) ∙ v .1), rw (n .2, h .2) (all-cons (legAt (a .t1)) (L .loop .at) (a .t1 .count) (so .ratio) (nearRatio (legAt (a .t1) (a .place))) (omega arith) ∙ v .2)))
 
 returns : tie.Need-returns Inv-loop μ-loop
 returns c =
     let L = c .before in
     let a = L .before .before .args in
-    sym (all-end (legAt (a .t1)) (L .loop .at) (a .t1 .count) (L .loop .all) (holdsOf (a .rule) (legAt (a .t1) (a .place))) (omega arith)) ∙ L .loop .inv .1
+    let so = L .loop .all in
+    let v = L .loop .inv .1 in
+    (sym (all-end (legAt (a .t1)) (L .loop .at) (a .t1 .count) (so .root) (sameRoot (legAt (a .t1) (a .place))) (omega arith)) ∙ v .0, sym (all-end (legAt (a .t1)) (L .loop .at) (a .t1 .count) (so .symbol) (otherSymbol (legAt (a .t1) (a .place))) (omega arith)) ∙ v .1, sym (all-end (legAt (a .t1)) (L .loop .at) (a .t1 .count) (so .ratio) (nearRatio (legAt (a .t1) (a .place))) (omega arith)) ∙ v .2)
 
 pub later-hold-spec : {M : Type 1} → statement M
 later-hold-spec =
@@ -72,6 +81,7 @@ later-hold-spec =
     mul-holds
     element-copy-out-holds
     holds-requires
+    both-hold-requires
     add-at-2
     loop-less
     loop-again

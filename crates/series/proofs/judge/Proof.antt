@@ -8,15 +8,16 @@ use borrow.Author.Needs.{needs}
 use lib.ListN.{length}
 use Rattle.rules.specs.Series.{isThirdFriday, onThirdFriday}
 use Rattle.series.proofs.SymbolLaws.{date-of, month-in}
-use Rattle.series.proofs.dated.Statement.{statement}
-use Rattle.series.proofs.dated.Tie as tie
+use Rattle.series.proofs.judge.Statement.{statement}
+use Rattle.series.proofs.judge.Tie as tie
 
 good-symbol-requires : tie.Need-good-symbol-requires
 good-symbol-requires c κs = search needs
 
 returns : tie.Need-returns
 returns c =
-    sym (ap (λ (b : Bool). b && onThirdFriday (c .before .before .args .symbol)) (sym (c .before .good-symbol .ensures) ∙ not-true _ (c .if1 .taken)))
+    let bad = sym (c .before .good-symbol .ensures) ∙ not-true _ (c .if1 .taken) in
+    (sym bad, sym (ap (λ (b : Bool). b && onThirdFriday (c .before .before .args .symbol)) bad))
 
 pair-requires : tie.Need-pair-requires
 pair-requires c κs = search needs
@@ -54,13 +55,15 @@ returns-2 c =
     let B = P .before .before .before .before in
     let s = B .before .args .symbol in
     let m = P .before .before .pair .result * 12 + (P .before .pair2 .result - 1) in
-    c .is-third-friday .ensures
-    ∙ ap (λ (b : Bool). b && isThirdFriday m (P .pair3 .result)) (lt-ltb m 1_200 (in-table P .1))
-    ∙ rw (P .before .before .pair .ensures .0, P .before .pair2 .ensures .0, P .pair3 .ensures .0)
-    (sym (ap (λ (b : Bool). b && onThirdFriday s) (sym (B .good-symbol .ensures) ∙ not-false _ (P .before .before .before .if1 .left))))
+    let good = sym (B .good-symbol .ensures) ∙ not-false _ (P .before .before .before .if1 .left) in (
+      sym good,
+      c .is-third-friday .ensures
+          ∙ ap (λ (b : Bool). b && isThirdFriday m (P .pair3 .result)) (lt-ltb m 1_200 (in-table P .1))
+          ∙ rw (P .before .before .pair .ensures .0, P .before .pair2 .ensures .0, P .pair3 .ensures .0) (sym (ap (λ (b : Bool). b && onThirdFriday s) good)),
+    )
 
-pub dated-spec : {M : Type 1} → statement M
-dated-spec =
+pub judge-spec : {M : Type 1} → statement M
+judge-spec =
     tie.close
     (tie.spec
     good-symbol-requires
