@@ -205,11 +205,11 @@ pub fn uses_of(kind: u8) -> Uses
         return CLOCK;
     }
     match kind {
-        2 => rows[1],
-        3 => rows[2],
-        4 => rows[3],
-        5 => rows[4],
-        6 => rows[5],
+        Fields::NATIONAL => rows[1],
+        Fields::ORDER => rows[2],
+        Fields::RESPONSE => rows[3],
+        Fields::MODIFY => rows[4],
+        Fields::CANCEL => rows[5],
         _ => rows[6],
     }
 }
