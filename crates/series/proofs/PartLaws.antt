@@ -1,6 +1,6 @@
 -- What is left of a part of a symbol: its head, its end, and what a loop over it goes on with.
 use mathlib.Core.Path.{_≡_, ap, _∙_}
-use mathlib.Core.Bool.{Bool, true, false, _&&_}
+use mathlib.Core.Bool.{Bool, true, false, _&&_, and-assoc, and-true}
 use mathlib.Core.List.{List, [], _∷_}
 use Prim.Native.Nat.{ℕ, suc, _+_, _-_, _≤_, _<_}
 use native.Mathlib.Numerals.{add-one}
@@ -34,15 +34,9 @@ module _ (f : ℕ → Bool) (s : List ℕ) (k n : ℕ) (l : n ≤ length s) (h :
 pub all-end : (f : ℕ → Bool) (s : List ℕ) (k n : ℕ) → n ≤ k → all f (part s k n) ≡ true
 all-end f s k n h = ap (all f) (part-end s k n h)
 
-module _ (a b : List ℕ) (k n : ℕ) (l : n ≤ length a) (m : n ≤ length b) (h : k < n) where
-  same-at : (t : Bool) → eqb (getD a k 0) (getD b k 0) ≡ t → sameBytes (part a k n) (part b k n) ≡ (t && sameBytes (part a (k + 1) n) (part b (k + 1) n))
-  same-at t e = rw (part-cons a k n l h, part-cons b k n m h, e)
+module _ (a b : List ℕ) (k n : ℕ) (t : Bool) where
+  pub same-next : n ≤ length a → n ≤ length b → k < n → ((t && eqb (getD a k 0) (getD b k 0)) && sameBytes (part a (k + 1) n) (part b (k + 1) n)) ≡ (t && sameBytes (part a k n) (part b k n))
+  same-next l m h = rw (part-cons a k n l h, part-cons b k n m h) (and-assoc t (eqb (getD a k 0) (getD b k 0)) (sameBytes (part a (k + 1) n) (part b (k + 1) n)))
 
-  pub same-go : eqb (getD a k 0) (getD b k 0) ≡ true → sameBytes (part a k n) (part b k n) ≡ sameBytes (part a (k + 1) n) (part b (k + 1) n)
-  same-go e = same-at true e
-
-  pub same-stop : eqb (getD a k 0) (getD b k 0) ≡ false → sameBytes (part a k n) (part b k n) ≡ false
-  same-stop e = same-at false e
-
-pub same-end : (a b : List ℕ) (k n : ℕ) → n ≤ k → sameBytes (part a k n) (part b k n) ≡ true
-same-end a b k n h = rw (part-end a k n h, part-end b k n h)
+  pub same-end : n ≤ k → (t && sameBytes (part a k n) (part b k n)) ≡ t
+  same-end h = rw (part-end a k n h, part-end b k n h) (and-true t)

@@ -66,14 +66,13 @@ fn same(a: [u8; 21], b: [u8; 21], count: usize) -> bool
     requires { ⌜ count ≤ 21 ⌝ }
     ensures { λ r. ⌜ r ≡ sameBytes (part a 0 count) (part b 0 count) ⌝ }
 {
+    let mut all = true;
     let mut at: usize = 0;
     while at < count {
-        if a[at] != b[at] {
-            return false;
-        }
+        all = all & (a[at] == b[at]);
         at += 1;
     }
-    true
+    all
 }
 
 // "root of 1 to 6 capitals padded with spaces to 6".
