@@ -1,17 +1,17 @@
--- The nearest tier from b on that has units, and the units there: nobody before it has any, and it is one of the offers' tiers.
+-- The nearest tier from b on that has units: nobody before it has any, and it is one of the offers' tiers.
 use mathlib.Core.Path.{_≡_, refl, sym, _∙_}
 use mathlib.Core.Logic.{_⊎_, inl, inr, ⊎-elim}
+use mathlib.Core.Bool.{_&&_}
 use mathlib.Core.List.{List, [], _∷_}
-use Prim.Native.Nat.{ℕ, _+_, _≤_, _<_}
-use native.Mathlib.Decide.{ℕ-discrete, decLt}
+use Prim.Native.Nat.{ℕ, _≤_, _<_, min}
+use native.Mathlib.Decide.{decLt}
 use native.Mathlib.Omega.{arith}
-use borrow.Author.Tests.{eq-eqb, ne-eqb, lt-ltb, le-ltb, le-leb, lt-leb}
-use lib.Dec.{eqb}
-use Rattle.rules.specs.Basics.{sum, pick}
+use borrow.Author.Tests.{lt-ltb, le-ltb, le-leb, lt-leb}
+use lib.Dec.{ltb, leb}
+use Rattle.rules.specs.Basics.{pick}
 use Rattle.rules.specs.Turn.{Offer, tier, tiers}
-use Rattle.rules.proofs.TestLaws.{pick-none}
 use Rattle.rules.proofs.TurnLaws.{Among, Covers, tiers-cover}
-use Rattle.execution.specs.Walk.{spots, nearer, gathered, leastFrom, totalFrom, sizesOf}
+use Rattle.execution.specs.Walk.{spots, noTier, nearer, leastFrom}
 
 -- ---- one slot
 
@@ -30,15 +30,23 @@ near b m p u =
           ]
     ]
 
--- one without units
-pub near-none : (b m t p : ℕ) → b ≤ p → (m ≡ nearer b m p 0) × (t ≡ gathered b m t p 0)
-near-none b m t p h =
-    elim (decLt p m) [
-      | yes i ↦ (rw (le-leb b p h, lt-ltb p m i), rw (le-leb b p h, lt-ltb p m i))
+-- a slot's tier, where it is open, or the nearest so far
+pub near-least : (b m p u : ℕ) → m ≤ noTier → min (pick (leb b p && ltb 0 u) p noTier) m ≡ nearer b m p u
+near-least b m p u h =
+    elim (decLt p b) [
+      | yes i ↦ rw (lt-leb b p i) (omega arith)
       | no i ↦
-          elim (ℕ-discrete p m) [
-            | yes e ↦ (rw (le-leb b p h, le-ltb p m (omega arith)), rw (le-leb b p h, le-ltb p m (omega arith), eq-eqb p m e) (omega arith))
-            | no e ↦ (rw (le-leb b p h, le-ltb p m (omega arith)), rw (le-leb b p h, le-ltb p m (omega arith), ne-eqb p m e))
+          elim (decLt 0 u) [
+            | yes j ↦
+                elim (decLt p m) [
+                  | yes l ↦ rw (le-leb b p (omega arith), lt-ltb 0 u j, lt-ltb p m l) (omega arith)
+                  | no l ↦ rw (le-leb b p (omega arith), lt-ltb 0 u j, le-ltb p m (omega arith)) (omega arith)
+                ]
+            | no j ↦
+                elim (decLt p m) [
+                  | yes l ↦ rw (le-leb b p (omega arith), le-ltb 0 u (omega arith), lt-ltb p m l) (omega arith)
+                  | no l ↦ rw (le-leb b p (omega arith), le-ltb 0 u (omega arith), le-ltb p m (omega arith)) (omega arith)
+                ]
           ]
     ]
 
@@ -66,54 +74,6 @@ least-most b m (p ∷ ps) (u ∷ us) =
     (λ w. omega (arith, least-most b (nearer b m p u) ps us, w .0, w .2))
     (λ w. omega (arith, least-most b (nearer b m p u) ps us, w .0))
     (near b m p u)
-
--- ---- the units there
-
--- what a slot adds to those at tier k, which is not beyond the nearest
-total-one : (b m t p u k : ℕ) → b ≤ k → k ≤ nearer b m p u → pick (eqb k (nearer b m p u)) (gathered b m t p u) 0 ≡ pick (eqb k m) t 0 + pick (eqb p k) u 0
-total-one b m t p u k h l =
-    elim (decLt p b) [
-      | yes i ↦ rw (lt-leb b p i, ne-eqb p k (λ e. omega arith)) (omega arith)
-      | no i ↦
-          let low : b ≤ p = omega arith in
-          elim (decLt p m) [
-            | yes j ↦
-                elim (decLt 0 u) [
-                  | yes v ↦
-                      let q : k ≤ p = rw (le-leb b p low, lt-ltb p m j, lt-ltb 0 u v) at l in
-                      elim (ℕ-discrete k p) [
-                        | yes e ↦ rw (le-leb b p low, lt-ltb p m j, lt-ltb 0 u v, eq-eqb k p e, eq-eqb p k (sym e), ne-eqb k m (λ z. omega arith)) (omega arith)
-                        | no e ↦ rw (le-leb b p low, lt-ltb p m j, lt-ltb 0 u v, ne-eqb k p e, ne-eqb p k (λ z. e (sym z)), ne-eqb k m (λ z. omega arith))
-                      ]
-                  | no v ↦
-                      let z : u ≡ 0 = omega arith in
-                      rw (z, le-leb b p low, lt-ltb p m j, pick-none (eqb p k)) (omega arith)
-                ]
-            | no j ↦
-                let q : k ≤ m = rw (le-leb b p low, le-ltb p m (omega arith)) at l in
-                elim (ℕ-discrete p m) [
-                  | yes e ↦
-                      elim (ℕ-discrete k m) [
-                        | yes f ↦ rw (le-leb b p low, le-ltb p m (omega arith), eq-eqb p m e, eq-eqb k m f, eq-eqb p k (omega arith))
-                        | no f ↦ rw (le-leb b p low, le-ltb p m (omega arith), eq-eqb p m e, ne-eqb k m f, ne-eqb p k (λ z. f (omega arith)))
-                      ]
-                  | no e ↦ rw (le-leb b p low, le-ltb p m (omega arith), ne-eqb p m e, ne-eqb p k (λ z. omega arith)) (omega arith)
-                ]
-          ]
-    ]
-
-total-from : (b m t : ℕ) (ps us : List ℕ) → b ≤ m → totalFrom b m t ps us ≡ pick (eqb (leastFrom b m ps us) m) t 0 + sum (sizesOf (leastFrom b m ps us) ps us)
-unfolding leastFrom totalFrom sizesOf
-total-from b m t [] us h = rw (eq-eqb m m refl) (omega arith)
-total-from b m t (p ∷ ps) [] h = rw (eq-eqb m m refl) (omega arith)
-total-from b m t (p ∷ ps) (u ∷ us) h =
-    let k = leastFrom b (nearer b m p u) ps us in
-    let low : b ≤ nearer b m p u = ⊎-elim (λ w. omega (arith, w .0, w .1)) (λ w. omega (arith, w .0)) (near b m p u) in
-    omega (arith, total-from b (nearer b m p u) (gathered b m t p u) ps us low, total-one b m t p u k (least-low b (nearer b m p u) k ps us refl low) (least-most b (nearer b m p u) ps us))
-
--- "the rank's total"
-pub total-is : (b m k : ℕ) (ps us : List ℕ) → b ≤ m → k ≡ leastFrom b m ps us → totalFrom b m 0 ps us ≡ sum (sizesOf k ps us)
-total-is b m k ps us h e = rw e (total-from b m 0 ps us h ∙ rw (pick-none (eqb (leastFrom b m ps us) m)) (omega arith))
 
 -- ---- nobody before it
 

@@ -9,7 +9,7 @@ use borrow.Author.Tests.{eq-eqb, ne-eqb}
 use lib.Dec.{eqb, ltb}
 use lib.ListN.{length, take, drop, getD, set}
 use lib.Seq.{length-take-le, drop-cons, take-suc-set, take-set-lt, drop-set-lt, set-getD}
-use Rattle.rules.specs.Basics.{pick, zeros}
+use Rattle.rules.specs.Basics.{sum, pick, zeros}
 use Rattle.rules.specs.Prices.{cents}
 use Rattle.rules.specs.Turn.{rankNumber, Contra, Offer, tier, sizes, Fill, fillOf, fillsAt}
 use Rattle.types.specs.View.{upto}
@@ -18,7 +18,7 @@ use Rattle.share.proofs.LoopLaws.{row, row-end, push}
 use Rattle.records.specs.Records.{narrow, mostGiven, rankFrom, contraFrom, recordFrom, Adds}
 use Rattle.records.proofs.RecordLaws.{adds-then}
 use Rattle.execution.specs.Slots.{offerIn, offersIn, Ranked}
-use Rattle.execution.specs.Walk.{spots, nearer, gathered, leastFrom, totalFrom, sizesOf, over, Under}
+use Rattle.execution.specs.Walk.{spots, noTier, nearer, leastFrom, sizesOf, over, Under}
 use Rattle.execution.specs.Turned.{slotRecords}
 use Rattle.execution.specs.declared.Order.{Order}
 use Rattle.execution.proofs.FillLaws.{fills-last}
@@ -31,11 +31,9 @@ module _ (n i : ℕ) (ps us : List ℕ) (hp : n ≤ length ps) (hu : n ≤ lengt
   unfolding leastFrom
   least-step b m = rw (row n i ps hp j, row n i us hu j)
 
-  pub total-step : (b m t : ℕ)
-      → totalFrom b (nearer b m (getD ps i 0) (getD us i 0)) (gathered b m t (getD ps i 0) (getD us i 0)) (drop (i + 1) (take n ps)) (drop (i + 1) (take n us))
-      ≡ totalFrom b m t (drop i (take n ps)) (drop i (take n us))
-  unfolding totalFrom
-  total-step b m t = rw (row n i ps hp j, row n i us hu j)
+  pub total-step : (k : ℕ) → pick (eqb (getD ps i 0) k) (getD us i 0) 0 + sum (sizesOf k (drop (i + 1) (take n ps)) (drop (i + 1) (take n us))) ≡ sum (sizesOf k (drop i (take n ps)) (drop i (take n us)))
+  unfolding sizesOf
+  total-step k = rw (row n i ps hp j, row n i us hu j)
 
   pub gather-step : (k : ℕ) (out : List ℕ) → n ≤ length out
       → take (i + 1) (set out i (pick (eqb (getD ps i 0) k) (getD us i 0) 0)) ++ sizesOf k (drop (i + 1) (take n ps)) (drop (i + 1) (take n us))
@@ -68,10 +66,6 @@ module _ (n i : ℕ) (h : n ≤ i) where
   unfolding leastFrom
   least-end b m ps us = rw (row-end n i ps h)
 
-  pub total-end : (b m t : ℕ) (ps us : List ℕ) → totalFrom b m t (drop i (take n ps)) us ≡ t
-  unfolding totalFrom
-  total-end b m t ps us = rw (row-end n i ps h)
-
   pub sizes-end : (k : ℕ) (ps us : List ℕ) → sizesOf k (drop i (take n ps)) us ≡ []
   unfolding sizesOf
   sizes-end k ps us = rw (row-end n i ps h)
@@ -85,6 +79,12 @@ module _ (n i : ℕ) (h : n ≤ i) where
 
 pub under-step : (n i m : ℕ) (ps : List ℕ) → n ≤ length ps → i < n → getD ps i 0 < m → (Under m (drop i (take n ps)) → Under m (take n ps)) → Under m (drop (i + 1) (take n ps)) → Under m (take n ps)
 under-step n i m ps h j p f s = f (rw (row n i ps h j) (p, s))
+
+-- tiers of ranks that there are are below the one that is none
+pub under-none : (n : ℕ) (ps : List ℕ) → Ranked n ps → Under 4294967296 (take n ps) → Under noTier (take n ps)
+under-none zero ps r u = tt
+under-none (suc n) [] r u = tt
+under-none (suc n) (p ∷ ps) r u = (omega (arith, r 0 (omega arith), u .0), under-none n ps (λ s h. r (suc s) (omega arith)) (u .1))
 
 -- ---- the offers in the slots
 

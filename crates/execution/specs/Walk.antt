@@ -1,6 +1,6 @@
 -- What the loops over the slots compute: lists of tiers and of units, as long as each other.
 use mathlib.Core.List.{List, [], _∷_}
-use Prim.Native.Nat.{ℕ, _+_, _<_}
+use Prim.Native.Nat.{ℕ, _<_}
 use lib.Dec.{eqb, ltb, leb}
 use Rattle.rules.specs.Basics.{pick}
 use Rattle.rules.specs.Turn.{Offer, tier}
@@ -10,29 +10,19 @@ unfoldable pub spots : List Offer → List ℕ
 spots [] = []
 spots (e ∷ es) = tier e ∷ spots es
 
--- no tier: above every one
+-- no tier: above every one, as none has a rank of 7
 abbrev pub noTier : ℕ
-noTier = 4_294_967_296
+noTier = 4_294_967_295
 
 -- the nearest tier from b on that has units, where m is so far: p where it is below m, else m
 abbrev pub nearer : ℕ → ℕ → ℕ → ℕ → ℕ
 nearer b m p u = pick (leb b p) (pick (ltb p m) (pick (ltb 0 u) p m) m) m
-
--- the units there, where t are so far
-abbrev pub gathered : ℕ → ℕ → ℕ → ℕ → ℕ → ℕ
-gathered b m t p u = pick (leb b p) (pick (ltb p m) (pick (ltb 0 u) u t) (pick (eqb p m) (t + u) t)) t
 
 -- the least of m and the tiers from b on that have units
 unfoldable pub leastFrom : ℕ → ℕ → List ℕ → List ℕ → ℕ
 leastFrom b m [] us = m
 leastFrom b m (p ∷ ps) [] = m
 leastFrom b m (p ∷ ps) (u ∷ us) = leastFrom b (nearer b m p u) ps us
-
--- the units there, t of them at m
-unfoldable pub totalFrom : ℕ → ℕ → ℕ → List ℕ → List ℕ → ℕ
-totalFrom b m t [] us = t
-totalFrom b m t (p ∷ ps) [] = t
-totalFrom b m t (p ∷ ps) (u ∷ us) = totalFrom b (nearer b m p u) (gathered b m t p u) ps us
 
 -- the units at tier k, 0 for those elsewhere
 unfoldable pub sizesOf : ℕ → List ℕ → List ℕ → List ℕ

@@ -5,10 +5,10 @@ use state::Clock;
 use state::Stage;
 use types::Derived;
 ghost use mathlib.Core.Path.{_≡_};
-ghost use mathlib.Core.Bool.{true};
+ghost use mathlib.Core.Bool.{true, _&&_};
 ghost use mathlib.Core.List.{List};
-ghost use Prim.Native.Nat.{ℕ, _+_, _-_, _*_, _%_, _<_, _≤_};
-ghost use lib.Dec.{eqb};
+ghost use Prim.Native.Nat.{ℕ, _+_, _-_, _%_, _<_, _≤_};
+ghost use lib.Dec.{eqb, ltb, leb};
 ghost use lib.ListN.{length, take};
 ghost use Rattle.rules.specs.Basics.{pick, sum};
 ghost use Rattle.rules.specs.Turn.{isShared, deal};
@@ -19,7 +19,7 @@ ghost use Rattle.state.specs.View.{entryAt, stateOf};
 ghost use Rattle.state.specs.Lent.{Becomes};
 ghost use Rattle.records.specs.Records.{mostGiven, Writes};
 ghost use Rattle.execution.specs.Slots.{modeOf, offersIn};
-ghost use Rattle.execution.specs.Walk.{noTier, nearer, gathered, leastFrom, sizesOf, over, Under};
+ghost use Rattle.execution.specs.Walk.{noTier, leastFrom, sizesOf, over, Under};
 ghost use Rattle.execution.specs.Turned.{slotRecords, Slotted, WritesAt, Cleared, Turned, orderAt, IsContra, Turns, Gives};
 ghost use Rattle.execution.specs.Plays.{Plays};
 
@@ -59,58 +59,49 @@ fn put_slot(
 
 // ---- the nearest tier
 
-// No tier: above every one.
-const NONE: u64 = 4_294_967_296;
+// No tier: above every one, as none has a rank of 7.
+const NONE: u32 = 4_294_967_295;
 
-// A tier, and the units there.
-struct Tier {
-    pub number: u64,
-    pub units: u64,
+// The tier of a slot of u units at p, if it is from b on and has units.
+fn open_tier(b: u32, p: u32, u: u32) -> u32
+    ensures { λ r. ⌜ (r ≡ pick (leb b p && ltb 0 u) p noTier) × (p < 4294967296) ⌝ }
+{
+    if (b <= p) & (0 < u) { p } else { NONE }
 }
 
-// The nearest tier from b on that has units, where m is so far, with a slot of u units at p.
-fn nearer(b: u64, m: Tier, p: u32, u: u32) -> Tier
-    requires { ⌜ m .units ≤ 64 * 4294967295 ⌝ }
-    ensures { λ r. ⌜ (r .number ≡ nearer b (m .number) p u) × (r .units ≡ gathered b (m .number) (m .units) p u) × (r .units ≤ m .units + 4294967295) × (p < noTier) ⌝ }
+// The nearest tier from b on that has units, if there is one.
+fn nearest(tiers: &[u32; 65], units: &[u32; 65], n: usize, b: u32) -> u32
+    requires { ⌜ (n ≤ 65) × (length (now tiers) ≡ 65) × (length (now units) ≡ 65) ⌝ }
+    ensures { λ r. ⌜ (r ≡ leastFrom b noTier (take n (now (tiers .entry))) (take n (now (units .entry)))) × Under 4294967296 (take n (now (tiers .entry))) ⌝ }
 {
-    let q = p as u64;
-    if q < b {
-        return m;
-    }
-    if m.number < q {
-        return m;
-    }
-    if u == 0 {
-        return m;
-    }
-    if q < m.number {
-        return Tier {
-            number: q,
-            units: u as u64,
-        };
-    }
-    Tier {
-        number: q,
-        units: m.units + (u as u64),
-    }
-}
-
-// The nearest tier from b on that has units, if there is one, and "the rank's total".
-fn nearest(tiers: &[u32; 65], units: &[u32; 65], n: usize, b: u64) -> Tier
-    requires { ⌜ (n ≤ 65) × (length (now tiers) ≡ 65) × (length (now units) ≡ 65) × (b ≤ noTier) ⌝ }
-    ensures { λ r. ⌜ (r .number ≡ leastFrom b noTier (take n (now (tiers .entry))) (take n (now (units .entry))))
-        × (r .units ≡ sum (sizesOf (r .number) (take n (now (tiers .entry))) (take n (now (units .entry))))) × Under noTier (take n (now (tiers .entry))) ⌝ }
-{
-    let mut m = Tier {
-        number: NONE,
-        units: 0,
-    };
+    let mut m = NONE;
     let mut i = 0;
     while i < n {
-        m = nearer(b, m, tiers[i], units[i]);
+        m = number::lesser(open_tier(b, tiers[i], units[i]), m);
         i += 1;
     }
     m
+}
+
+// The number x for a slot at tier k, 0 for another.
+fn at_tier(p: u32, k: u32, x: u32) -> u32
+    ensures { λ r. ⌜ r ≡ pick (eqb p k) x 0 ⌝ }
+{
+    if p == k { x } else { 0 }
+}
+
+// "the rank's total": the units at tier k.
+fn total_at(tiers: &[u32; 65], units: &[u32; 65], n: usize, k: u32) -> u64
+    requires { ⌜ (n ≤ 65) × (length (now tiers) ≡ 65) × (length (now units) ≡ 65) ⌝ }
+    ensures { λ r. ⌜ r ≡ sum (sizesOf k (take n (now (tiers .entry))) (take n (now (units .entry)))) ⌝ }
+{
+    let mut sum: u64 = 0;
+    let mut i = 0;
+    while i < n {
+        sum += number::wide(at_tier(tiers[i], k, units[i]));
+        i += 1;
+    }
+    sum
 }
 
 // ---- what the slots at one tier give
@@ -131,7 +122,7 @@ fn give(
     o: Order,
     tiers: &[u32; 65],
     n: usize,
-    k: u64,
+    k: u32,
     new: &[u32; 65],
     gave: &mut [u32; 65],
 ) -> usize
@@ -139,11 +130,11 @@ fn give(
     ensures { λ r. ⌜ (length (now (gave .exit)) ≡ 65) × (take n (now (gave .exit)) ≡ over k (take n (now (tiers .entry))) (take n (now (new .entry))) (take n (now (gave .entry))))
         × WritesAt k words list at r o tiers n gave ⌝ }
 {
-    let rank = (k % 8) as u32;
+    let rank = k % 8;
     let mut w = at;
     let mut i = 0;
     while i < n {
-        if number::wide(tiers[i]) == k {
+        if tiers[i] == k {
             gave[i] = new[i];
             w = put_slot(words, list, w, o.number, o.id, o.legs, rank, i, new[i]);
             i += 1;
@@ -154,15 +145,8 @@ fn give(
     w
 }
 
-// The number x for a slot at tier k, 0 for another.
-fn at_tier(p: u32, k: u64, x: u32) -> u32
-    ensures { λ r. ⌜ r ≡ pick (eqb p k) x 0 ⌝ }
-{
-    if p as u64 == k { x } else { 0 }
-}
-
 // The units at tier k, 0 for those elsewhere.
-fn gather(tiers: &[u32; 65], units: &[u32; 65], n: usize, k: u64, sizes: &mut [u32; 65])
+fn gather(tiers: &[u32; 65], units: &[u32; 65], n: usize, k: u32, sizes: &mut [u32; 65])
     requires { ⌜ (n ≤ 65) × (length (now tiers) ≡ 65) × (length (now units) ≡ 65) × (length (now sizes) ≡ 65) ⌝ }
     ensures { λ _. ⌜ (length (now (sizes .exit)) ≡ 65) × (take n (now (sizes .exit)) ≡ sizesOf k (take n (now (tiers .entry))) (take n (now (units .entry)))) ⌝ }
 {
@@ -174,18 +158,18 @@ fn gather(tiers: &[u32; 65], units: &[u32; 65], n: usize, k: u64, sizes: &mut [u
 }
 
 // Whether tier k is of rank C or N.
-fn is_shared(k: u64) -> bool
+fn is_shared(k: u32) -> bool
     ensures { λ r. ⌜ r ≡ isShared k ⌝ }
 {
     let rank = k % 8;
-    if rank == Rank::C as u64 {
+    if rank == Rank::C {
         return true;
     }
-    rank == Rank::N as u64
+    rank == Rank::N
 }
 
 // "C and N are shared by size"; the others in turn.
-fn deal(sizes: &[u32; 65], n: usize, k: u64, amount: u32, shares: &mut [u32; 65])
+fn deal(sizes: &[u32; 65], n: usize, k: u32, amount: u32, shares: &mut [u32; 65])
     requires { ⌜ (n ≤ 65) × (length (now sizes) ≡ 65) × (length (now shares) ≡ 65) ⌝ }
     ensures { λ _. ⌜ (length (now (shares .exit)) ≡ 65) × (take n (now (shares .exit)) ≡ deal k amount (take n (now (sizes .entry)))) ⌝ }
 {
@@ -205,7 +189,7 @@ fn give_part(
     tiers: &[u32; 65],
     units: &[u32; 65],
     n: usize,
-    k: u64,
+    k: u32,
     amount: u32,
     gave: &mut [u32; 65],
 ) -> usize
@@ -247,36 +231,26 @@ fn turn(
 {
     let mut w = at;
     let mut rest = number::wide(o.units);
-    let mut b: u64 = 0;
+    let mut b: u32 = 0;
     while 0 < rest {
-        let m = nearest(tiers, units, n, b);
-        if NONE <= m.number {
+        let k = nearest(tiers, units, n, b);
+        if NONE <= k {
             return Taken {
                 count: w,
                 units: o.units - (rest as u32),
             };
         }
-        if rest < m.units {
-            w = give_part(
-                words,
-                list,
-                w,
-                o,
-                tiers,
-                units,
-                n,
-                m.number,
-                rest as u32,
-                gave,
-            );
+        let total = total_at(tiers, units, n, k);
+        if rest < total {
+            w = give_part(words, list, w, o, tiers, units, n, k, rest as u32, gave);
             return Taken {
                 count: w,
                 units: o.units,
             };
         }
-        w = give(words, list, w, o, tiers, n, m.number, units, gave);
-        rest -= m.units;
-        b = m.number + 1;
+        w = give(words, list, w, o, tiers, n, k, units, gave);
+        rest -= total;
+        b = k + 1;
     }
     Taken {
         count: w,

@@ -1,7 +1,7 @@
 // Document 01, "Order and auction life": a message taken in, in place: the state with it, and what it does to the auction.
 ghost use mathlib.Core.Path.{_≡_};
 ghost use mathlib.Core.Bool.{_&&_};
-ghost use Prim.Native.Nat.{_-_, _≤_};
+ghost use Prim.Native.Nat.{_-_};
 ghost use lib.Dec.{leb};
 ghost use lib.ListN.{length};
 ghost use Rattle.rules.specs.Book.{Entry as Open, held, queued, answer, withStage};

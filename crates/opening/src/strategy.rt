@@ -128,18 +128,18 @@ fn both_hold(a: PairMarks, b: PairMarks) -> PairMarks
 }
 
 // What holds between a leg and all later ones.
-fn later_hold(o: Opening, place: usize) -> PairMarks
-    requires { ⌜ (place < o .count) × (o .count ≤ 4) ⌝ }
-    ensures { λ r. ⌜ PairMarked (λ b q. b ≡ all (q (legAt o place)) (from (legAt o) (place + 1) (o .count))) r ⌝ }
+fn later_hold(o: Opening, k: usize) -> PairMarks
+    requires { ⌜ (k < o .count) × (o .count ≤ 4) ⌝ }
+    ensures { λ r. ⌜ PairMarked (λ b q. b ≡ all (q (legAt o k)) (from (legAt o) (k + 1) (o .count))) r ⌝ }
 {
     let count = o.count;
-    let leg = o.legs[place];
+    let leg = o.legs[k];
     let mut all = PairMarks {
         root: true,
         symbol: true,
         ratio: true,
     };
-    let mut at = place + 1;
+    let mut at = k + 1;
     while at < count {
         all = both_hold(all, holds(leg, o.legs[at]));
         at += 1;

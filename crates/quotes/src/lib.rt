@@ -3,7 +3,7 @@ ghost use mathlib.Core.Path.{_≡_};
 ghost use Prim.Native.Nat.{_-_, _*_, _≤_, _<_};
 ghost use Rattle.rules.specs.Strategy.{isB, mostRatio};
 ghost use Rattle.rules.specs.Prices.{usesAsk, used, net, unitsShown, least, derived as derivedRule, lowerQuote, lower as lowerOf};
-ghost use Rattle.rules.specs.Filter.{allNational, legPrice, smaller as smallerOf, smallest as smallestRule, amountFor, smallestRatio as smallestRatioOf, beyond as beyondOf, filtered as filteredOf};
+ghost use Rattle.rules.specs.Filter.{allNational, legPrice, smaller as smallerOf, smallest as smallestRule, amountFor, smallestRatio as smallestRatioOf, filtered as filteredOf};
 ghost use Rattle.rules.specs.State.{withMarket};
 ghost use Rattle.rules.specs.Step.{localQuote, nationalQuote, localIn, nationalIn};
 ghost use Rattle.types.specs.View.{quoteOf, derivedOf, localOf, nationalOf};

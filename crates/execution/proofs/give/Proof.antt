@@ -23,21 +23,15 @@ Inv-loop words list₀ at o tiers n k new gave₀ rank w₀ i₀ list gave w i =
 abbrev μ-loop : tie.MeasureT-loop
 μ-loop words list₀ at o tiers n k new gave₀ rank w₀ i₀ list gave w i = n - i
 
-cast-rank : tie.Need-cast-rank Inv-loop μ-loop
-cast-rank c = search needs
-
 loop-holds : tie.Need-loop-holds Inv-loop μ-loop
 unfolding upto
 loop-holds c = (search needs, search needs, refl, λ longs units. adds-none _ _)
 
-mul-wide : tie.Need-mul-wide Inv-loop μ-loop
-mul-wide c = search needs
+mul-if1 : tie.Need-mul-if1 Inv-loop μ-loop
+mul-if1 c = search needs
 
-element-copy-out-wide : tie.Need-element-copy-out-wide Inv-loop μ-loop
-element-copy-out-wide c = search needs
-
-wide-requires : tie.Need-wide-requires Inv-loop μ-loop
-wide-requires c κs = search needs
+element-copy-out-if1 : tie.Need-element-copy-out-if1 Inv-loop μ-loop
+element-copy-out-if1 c = search needs
 
 mul-gave : tie.Need-mul-gave Inv-loop μ-loop
 mul-gave c = search needs
@@ -70,14 +64,13 @@ loop-again : tie.Need-loop-again Inv-loop μ-loop
 loop-again c =
     let P = c .before .before in
     let T = P .before .before .before .before in
-    let W = T .before in
-    let L = W .before .before .before in
+    let L = T .before .before .before in
     let S = L .before .before .before in
     let a = S .args in
     let i = L .loop .i in
     let v = L .loop .inv in
     let x = getD (a .new .now) i 0 in
-    let e : getD (a .tiers .now) i 0 ≡ a .k = sym (W .wide .ensures .0) ∙ T .if1 .taken in (
+    let e : getD (a .tiers .now) i 0 ≡ a .k = T .if1 .taken in (
       omega arith,
       search needs,
       give-yes (a .n) i (a .tiers .now) (a .new .now) (omega arith) (omega arith) (omega arith) (a .k) (L .loop .gave) (omega (arith, v .1)) e ∙ v .2,
@@ -92,13 +85,12 @@ loop-less-2 c = search needs
 
 loop-again-2 : tie.Need-loop-again-2 Inv-loop μ-loop
 loop-again-2 c =
-    let W = c .before in
-    let L = W .before .before .before in
+    let L = c .before .before .before in
     let S = L .before .before .before in
     let a = S .args in
     let i = L .loop .i in
     let v = L .loop .inv in
-    let n : getD (a .tiers .now) i 0 ≡ a .k → ⊥ = λ e. c .if1 .left (W .wide .ensures .0 ∙ e) in (
+    let n : getD (a .tiers .now) i 0 ≡ a .k → ⊥ = c .if1 .left in (
       omega arith,
       v .1,
       give-no (a .n) i (a .tiers .now) (a .new .now) (omega arith) (omega arith) (omega arith) (a .k) (L .loop .gave) (omega (arith, v .1)) n ∙ v .2,
@@ -126,11 +118,9 @@ give-spec =
     (tie.spec
     Inv-loop
     μ-loop
-    cast-rank
     loop-holds
-    mul-wide
-    element-copy-out-wide
-    wide-requires
+    mul-if1
+    element-copy-out-if1
     mul-gave
     element-copy-out-gave
     mul-gave-2

@@ -1,19 +1,12 @@
 use borrow.Author.Tests.{eq-eqb, ne-eqb}
-use borrow.Author.Needs.{needs}
 use Rattle.execution.proofs.is_shared.Statement.{statement}
 use Rattle.execution.proofs.is_shared.Tie as tie
 
-cast-if1 : tie.Need-cast-if1
-cast-if1 c = search needs
-
 returns : tie.Need-returns
 returns c = rw (eq-eqb _ _ (c .if1 .taken))
-
-cast-result : tie.Need-cast-result
-cast-result c = search needs
 
 returns-2 : tie.Need-returns-2
 returns-2 c = rw (ne-eqb _ _ (c .if1 .left))
 
 pub is-shared-spec : {M : Type 1} → statement M
-is-shared-spec = tie.close (tie.spec cast-if1 returns cast-result returns-2)
+is-shared-spec = tie.close (tie.spec returns returns-2)

@@ -9,7 +9,7 @@ use Rattle.rules.specs.Basics.{zeros}
 use Rattle.execution.specs.Slots.{offersIn}
 use Rattle.execution.specs.Walk.{noTier}
 use Rattle.execution.proofs.NextLaws.{least-low}
-use Rattle.execution.proofs.SlotLaws.{spots-are, sizes-are, cleared}
+use Rattle.execution.proofs.SlotLaws.{under-none, spots-are, sizes-are, cleared}
 use Rattle.execution.proofs.GrantLaws.{Walked, walk-start, walk-end, walk-none, walk-all, walk-part}
 use Rattle.execution.proofs.turn.Statement.{statement}
 use Rattle.execution.proofs.turn.Tie as tie
@@ -41,11 +41,11 @@ loop-holds c =
 nearest-requires : tie.Need-nearest-requires Inv-loop μ-loop
 nearest-requires c κs = search needs
 
-cast-t14 : tie.Need-cast-t14 Inv-loop μ-loop
-cast-t14 c = search needs
+cast-t15 : tie.Need-cast-t15 Inv-loop μ-loop
+cast-t15 c = search needs
 
-sub-t15 : tie.Need-sub-t15 Inv-loop μ-loop
-sub-t15 c = search needs
+sub-t16 : tie.Need-sub-t16 Inv-loop μ-loop
+sub-t16 c = search needs
 
 same-length : tie.Need-same-length Inv-loop μ-loop
 same-length c = search needs
@@ -53,7 +53,7 @@ same-length c = search needs
 returns : tie.Need-returns Inv-loop μ-loop
 returns c =
     let T = c .before in
-    let N = T .before .before in
+    let N = T .before in
     let L = N .before .before in
     let S = L .before .before .before .before in
     let a = S .args in
@@ -64,9 +64,12 @@ returns c =
     let v = L .loop .inv in
     let e = N .nearest .ensures in (
       v .0,
-      λ longs. walk-none (a .o .number) (a .o .id) (a .o .units) (offersIn longs w (a .o .legs) ps us n) (L .loop .b) (L .loop .rest) (N .nearest .result .number) (take n ps) (take n us) (take n (L .loop .gave)) (a .list .now) (a .at) (L .loop .list) (L .loop .w)
-          (v .2) (spots-are longs w (a .o .legs) ps us n (omega arith) (S .pre .0 .4)) (sizes-are longs w (a .o .legs) ps us n (omega arith)) (e .0) (v .4 longs) (T .if1 .taken) (e .2),
+      λ longs. walk-none (a .o .number) (a .o .id) (a .o .units) (offersIn longs w (a .o .legs) ps us n) (L .loop .b) (L .loop .rest) (N .nearest .result) (take n ps) (take n us) (take n (L .loop .gave)) (a .list .now) (a .at) (L .loop .list) (L .loop .w)
+          (v .2) (spots-are longs w (a .o .legs) ps us n (omega arith) (S .pre .0 .4)) (sizes-are longs w (a .o .legs) ps us n (omega arith)) (e .0) (v .4 longs) (T .if1 .taken) (under-none n ps (S .pre .0 .4) (e .1)),
     )
+
+total-at-requires : tie.Need-total-at-requires Inv-loop μ-loop
+total-at-requires c κs = search needs
 
 cast-give-part : tie.Need-cast-give-part Inv-loop μ-loop
 cast-give-part c = search needs
@@ -81,8 +84,9 @@ returns-2 : tie.Need-returns-2 Inv-loop μ-loop
 returns-2 c =
     let G = c .before .before in
     let T = G .before .before .before in
-    let E = T .before .before in
-    let N = E .before .before in
+    let A = T .before in
+    let E = A .before in
+    let N = E .before in
     let L = N .before .before in
     let S = L .before .before .before .before in
     let a = S .args in
@@ -94,9 +98,9 @@ returns-2 c =
     let e = N .nearest .ensures in
     let g = G .give-part .ensures in (
       g .0,
-      λ longs. walk-part (a .o .number) (a .o .id) (a .o .units) (offersIn longs w (a .o .legs) ps us n) (L .loop .b) (L .loop .rest) (N .nearest .result .number) (take n ps) (take n us) (take n (L .loop .gave)) (a .list .now) (a .at) (L .loop .list) (L .loop .w)
+      λ longs. walk-part (a .o .number) (a .o .id) (a .o .units) (offersIn longs w (a .o .legs) ps us n) (L .loop .b) (L .loop .rest) (N .nearest .result) (take n ps) (take n us) (take n (L .loop .gave)) (a .list .now) (a .at) (L .loop .list) (L .loop .w)
           (v .2) (spots-are longs w (a .o .legs) ps us n (omega arith) (S .pre .0 .4)) (sizes-are longs w (a .o .legs) ps us n (omega arith)) (e .0) (v .4 longs) (E .if1 .left)
-          (N .nearest .result .units) (take n (G .give-part .last .1 .1 .1 .1 .1 .1 .1 .1 .1 .0)) (G .give-part .last .1 .0) (G .give-part .result) (e .1) (T .if2 .taken) (g .1) (g .2 longs us),
+          (A .total-at .result) (take n (G .give-part .last .1 .1 .1 .1 .1 .1 .1 .1 .1 .0)) (G .give-part .last .1 .0) (G .give-part .result) (A .total-at .ensures) (T .if2 .taken) (g .1) (g .2 longs us),
     )
 
 give-requires : tie.Need-give-requires Inv-loop μ-loop
@@ -107,22 +111,22 @@ add-b c = search needs
 
 loop-less : tie.Need-loop-less Inv-loop μ-loop
 loop-less c =
-    let E = c .before .before .before .before .before .before .before in
-    let F = E .before .before in
-    let N = F .before .before in
+    let F = c .before .before .before .before .before .before .before in
+    let N = F .before in
     let L = N .before .before in
     let S = L .before .before .before .before in
     let a = S .args in
-    let k = N .nearest .result .number in
+    let k = N .nearest .result in
     let low : L .loop .b ≤ k = least-low (L .loop .b) noTier k (take (a .n) (a .tiers .now)) (take (a .n) (a .units .now)) (N .nearest .ensures .0) (L .loop .inv .2) in
     omega (arith, F .if1 .left)
 
 loop-again : tie.Need-loop-again Inv-loop μ-loop
 loop-again c =
-    let G = c .before .before .before .before in
+    let G = c .before .before in
     let E = G .before .before .before in
-    let F = E .before .before in
-    let N = F .before .before in
+    let A = E .before in
+    let F = A .before in
+    let N = F .before in
     let L = N .before .before in
     let S = L .before .before .before .before in
     let a = S .args in
@@ -137,9 +141,9 @@ loop-again c =
       search needs,
       omega (arith, F .if1 .left),
       omega (arith, v .3),
-      λ longs. walk-all (a .o .number) (a .o .id) (a .o .units) (offersIn longs w (a .o .legs) ps us n) (L .loop .b) (L .loop .rest) (N .nearest .result .number) (take n ps) (take n us) (take n (L .loop .gave)) (a .list .now) (a .at) (L .loop .list) (L .loop .w)
+      λ longs. walk-all (a .o .number) (a .o .id) (a .o .units) (offersIn longs w (a .o .legs) ps us n) (L .loop .b) (L .loop .rest) (N .nearest .result) (take n ps) (take n us) (take n (L .loop .gave)) (a .list .now) (a .at) (L .loop .list) (L .loop .w)
           (v .2) (spots-are longs w (a .o .legs) ps us n (omega arith) (S .pre .0 .4)) (sizes-are longs w (a .o .legs) ps us n (omega arith)) (e .0) (v .4 longs) (F .if1 .left)
-          (N .nearest .result .units) (take n (G .give .last .1 .1 .1 .1 .1 .1 .1 .1 .0)) (G .give .last .1 .0) (G .give .result) (e .1) (E .if2 .left) (g .1) (g .2 longs us),
+          (A .total-at .result) (take n (G .give .last .1 .1 .1 .1 .1 .1 .1 .1 .0)) (G .give .last .1 .0) (G .give .result) (A .total-at .ensures) (E .if2 .left) (g .1) (g .2 longs us),
     )
 
 same-length-3 : tie.Need-same-length-3 Inv-loop μ-loop
@@ -164,10 +168,11 @@ turn-spec =
     wide-requires
     loop-holds
     nearest-requires
-    cast-t14
-    sub-t15
+    cast-t15
+    sub-t16
     same-length
     returns
+    total-at-requires
     cast-give-part
     give-part-requires
     same-length-2

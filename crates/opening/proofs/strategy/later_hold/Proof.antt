@@ -13,11 +13,11 @@ use Rattle.opening.proofs.strategy.later_hold.Statement.{statement}
 use Rattle.opening.proofs.strategy.later_hold.Tie as tie
 
 abbrev Inv-loop : tie.InvT-loop
-Inv-loop place o count leg so₀ at₀ so at =
-    (at ≤ count) × PairMarked (λ b q. (b && all (q (legAt o place)) (from (legAt o) at count)) ≡ all (q (legAt o place)) (from (legAt o) (place + 1) count)) so
+Inv-loop k o count leg so₀ at₀ so at =
+    (at ≤ count) × PairMarked (λ b q. (b && all (q (legAt o k)) (from (legAt o) at count)) ≡ all (q (legAt o k)) (from (legAt o) (k + 1) count)) so
 
 abbrev μ-loop : tie.MeasureT-loop
-μ-loop place o count leg so₀ at₀ so at = count - at
+μ-loop k o count leg so₀ at₀ so at = count - at
 
 mul-leg : tie.Need-mul-leg Inv-loop μ-loop
 mul-leg c = search needs
@@ -58,7 +58,7 @@ loop-again c =
     let n = c .both-hold .ensures in
     let so = L .loop .all in
     let v = L .loop .inv .1 in
-    (search needs, (rw (n .0, h .0) (all-cons (legAt (a .t1)) (L .loop .at) (a .t1 .count) (so .root) (sameRoot (legAt (a .t1) (a .place))) (omega arith) ∙ v .0), rw (n .1, h .1) (all-cons (legAt (a .t1)) (L .loop .at) (a .t1 .count) (so .symbol) (otherSymbol (legAt (a .t1) (a .place))) (omega arith) ∙ v .1), rw (n .2, h .2) (all-cons (legAt (a .t1)) (L .loop .at) (a .t1 .count) (so .ratio) (nearRatio (legAt (a .t1) (a .place))) (omega arith) ∙ v .2)))
+    (search needs, (rw (n .0, h .0) (all-cons (legAt (a .t1)) (L .loop .at) (a .t1 .count) (so .root) (sameRoot (legAt (a .t1) (a .k))) (omega arith) ∙ v .0), rw (n .1, h .1) (all-cons (legAt (a .t1)) (L .loop .at) (a .t1 .count) (so .symbol) (otherSymbol (legAt (a .t1) (a .k))) (omega arith) ∙ v .1), rw (n .2, h .2) (all-cons (legAt (a .t1)) (L .loop .at) (a .t1 .count) (so .ratio) (nearRatio (legAt (a .t1) (a .k))) (omega arith) ∙ v .2)))
 
 returns : tie.Need-returns Inv-loop μ-loop
 returns c =
@@ -66,7 +66,7 @@ returns c =
     let a = L .before .before .args in
     let so = L .loop .all in
     let v = L .loop .inv .1 in
-    (sym (all-end (legAt (a .t1)) (L .loop .at) (a .t1 .count) (so .root) (sameRoot (legAt (a .t1) (a .place))) (omega arith)) ∙ v .0, sym (all-end (legAt (a .t1)) (L .loop .at) (a .t1 .count) (so .symbol) (otherSymbol (legAt (a .t1) (a .place))) (omega arith)) ∙ v .1, sym (all-end (legAt (a .t1)) (L .loop .at) (a .t1 .count) (so .ratio) (nearRatio (legAt (a .t1) (a .place))) (omega arith)) ∙ v .2)
+    (sym (all-end (legAt (a .t1)) (L .loop .at) (a .t1 .count) (so .root) (sameRoot (legAt (a .t1) (a .k))) (omega arith)) ∙ v .0, sym (all-end (legAt (a .t1)) (L .loop .at) (a .t1 .count) (so .symbol) (otherSymbol (legAt (a .t1) (a .k))) (omega arith)) ∙ v .1, sym (all-end (legAt (a .t1)) (L .loop .at) (a .t1 .count) (so .ratio) (nearRatio (legAt (a .t1) (a .k))) (omega arith)) ∙ v .2)
 
 pub later-hold-spec : {M : Type 1} → statement M
 later-hold-spec =

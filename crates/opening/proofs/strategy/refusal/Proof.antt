@@ -18,11 +18,11 @@ use Rattle.opening.proofs.RowLaws.{row-at, legs-count}
 use Rattle.opening.proofs.strategy.refusal.Statement.{statement}
 use Rattle.opening.proofs.strategy.refusal.Tie as tie
 
--- the rows from a place on
+-- the rows from one on
 abbrev rows : ℕ → Opening → List Rule
 rows k o = drop k (openingRow (openingOf o))
 
--- the opening's number is that of the rows from a place on
+-- the opening's number is that of the rows from one on
 abbrev Past : ℕ → Opening → Type 0
 Past k o = openingRefusal (openingOf o) ≡ firstOf (rows k o)
 
@@ -45,7 +45,7 @@ o-5 c = o-4 (c .before .before .before .before)
 abbrev o-6 : tie.Else6 → Opening
 o-6 c = o-5 (c .before .before)
 
--- where the legs were asked, from each place on
+-- where the legs were asked, from each one on
 abbrev asked-3 : tie.Else3 → tie.After-all-keep
 asked-3 c = c .before .before .before .before
 
