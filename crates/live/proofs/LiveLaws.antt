@@ -24,8 +24,9 @@ use Rattle.text.proofs.PutsLaws.{puts-room}
 use Rattle.feed.specs.declared.Cursor.{Cursor}
 use Rattle.feed.specs.Replies.{mostReply, afterRecords, repliesText, recordsFrom, wholeRecords, Runs}
 use Rattle.feed.proofs.RunLaws.{after-append, replies-append, records-append}
+use Rattle.output.specs.Counted.{counted}
 use Rattle.live.specs.declared.Total.{Total}
-use Rattle.live.specs.Lives.{counted, IsRead, IsAnswered, IsMoved, IsRound, Lived, IsRun}
+use Rattle.live.specs.Lives.{IsRead, IsAnswered, IsMoved, IsRound, Lived, IsRun}
 
 -- ---- bytes that move to the front
 

@@ -2,7 +2,7 @@
 use mathlib.Core.Path.{_≡_}
 use mathlib.Core.Bool.{Bool, true}
 use mathlib.Core.List.{List}
-use Prim.Native.Nat.{ℕ, _+_, _-_, _*_, _≤_, _<_, min}
+use Prim.Native.Nat.{ℕ, _+_, _-_, _*_, _≤_, _<_}
 use lib.ListN.{length, take, getD}
 use denote.Ref.{now}
 use Rattle.rules.specs.Basics.{All}
@@ -16,6 +16,7 @@ use Rattle.state.specs.Lent.{Lent}
 use Rattle.records.specs.Records.{width}
 use Rattle.tape.specs.View.{strategyFrom}
 use Rattle.feed.specs.Replies.{afterRecords, repliesText, recordsFrom, wholeRecords}
+use Rattle.output.specs.Counted.{counted}
 use Rattle.live.specs.declared.Burst.{Burst}
 use Rattle.live.specs.declared.Round.{Round}
 use Rattle.live.specs.declared.Total.{Total}
@@ -23,10 +24,6 @@ use Rattle.live.specs.declared.Total.{Total}
 -- the slices of a state, a list of 2,000 places, and a page that has room for half a page and an answer
 abbrev pub Fits : List ℕ → List ℕ → List ℕ → List ℕ → Type 0
 Fits longs words list page = Sized longs words × (leastRoom * width ≤ length list) × (length page ≡ 512128)
-
--- bytes are counted up to so many
-abbrev pub counted : ℕ → ℕ
-counted n = min n 1_000_000_000_000_000_000
 
 -- ---- one read
 

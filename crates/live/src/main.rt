@@ -5,7 +5,7 @@ ghost use lib.ListN.{length};
 ghost use Rattle.rules.specs.Refusals.{leastRoom};
 ghost use Rattle.state.specs.Layout.{Sized};
 ghost use Rattle.records.specs.Records.{width};
-ghost use Rattle.live.specs.Lives.{Fits, counted, Reads, Answers, Moves, Rounds, Lives, Runs};
+ghost use Rattle.live.specs.Lives.{Fits, Reads, Answers, Moves, Rounds, Lives, Runs};
 use feed::Cursor;
 use libc::STDIN_FILENO;
 use libc::STDOUT_FILENO;
@@ -29,12 +29,6 @@ const NUMBERS: usize = Record::NUMBERS * Fill::LEAST_ROOM;
 
 // A page has room for half a page, and then for an answer: 2,001 lines of at most 128 bytes.
 const HALF: usize = 256_000;
-
-// What was handed to the system: how many bytes in all, and whether it took the last of them.
-struct Handed {
-    pub bytes: u64,
-    pub taken: bool,
-}
 
 // The answers to the whole records of an input: how many were given, how many bytes they have, and whether the system took them.
 struct Burst {
@@ -88,15 +82,6 @@ fn say_opening(number: u32) -> bool {
 // The input ends inside the header, the legs or a record.
 fn say_incomplete() {
     io::write_all(STDOUT_FILENO, b"incomplete\n");
-}
-
-// All of a part of a page; so many bytes were handed over before it.
-fn hand_over(part: &[u8], before: u64) -> Handed
-    ensures { λ r. ⌜ r .bytes ≡ counted (before + length (now (part .entry))) ⌝ }
-{
-    let taken = io::write_all(STDOUT_FILENO, part);
-    let bytes = number::count_up(before, part.len());
-    Handed { bytes, taken }
 }
 
 // ---- the opening
@@ -171,7 +156,7 @@ fn answer_all(
     while p.position < count {
         p = feed::run(longs, words, list, page, input, p, HALF);
         let end = p.at;
-        let h = hand_over(&page[..end], bytes);
+        let h = output::hand_over(&page[..end], bytes);
         bytes = h.bytes;
         if !h.taken {
             return Burst {
@@ -257,7 +242,7 @@ fn listen(
         let t = hear(longs, words, list, page, input, left);
         left = t.left;
         records += t.answered as u64;
-        bytes = number::count_up(bytes, t.bytes as usize);
+        bytes = output::count_up(bytes, t.bytes as usize);
         reads += 1;
         if !t.going {
             return Total { records, bytes };

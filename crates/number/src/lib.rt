@@ -1,6 +1,6 @@
 // Small sums and comparisons of numbers that no caller need check.
 ghost use mathlib.Core.Path.{_≡_};
-ghost use Prim.Native.Nat.{_+_, _-_, _≤_, min};
+ghost use Prim.Native.Nat.{_-_, _≤_, min};
 
 // The lesser of two.
 pub fn lesser(a: u32, b: u32) -> u32
@@ -49,20 +49,4 @@ pub fn wide(x: u32) -> u64
     ensures { λ r. ⌜ (r ≡ x) × (r ≤ 4294967295) ⌝ }
 {
     x as u64
-}
-
-// What is counted at most.
-const MOST_COUNTED: u64 = 1_000_000_000_000_000_000;
-
-// So many more.
-pub fn count_up(total: u64, n: usize) -> u64
-    ensures { λ r. ⌜ r ≡ min (total + n) 1000000000000000000 ⌝ }
-{
-    let more = n as u64;
-    if total < MOST_COUNTED {
-        if more < MOST_COUNTED - total {
-            return total + more;
-        }
-    }
-    MOST_COUNTED
 }

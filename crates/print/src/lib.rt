@@ -1,6 +1,6 @@
 // Document 01, "Tape": what tapeprint prints, through a page.
 ghost use mathlib.Core.Path.{_≡_};
-ghost use Prim.Native.Nat.{_+_, _*_, _≤_, _<_, min};
+ghost use Prim.Native.Nat.{_+_, _*_, _≤_};
 ghost use lib.ListN.{length, drop};
 ghost use Rattle.rules.specs.Tape.{messagesFrom};
 ghost use Rattle.rules.specs.Print.{titleLine, linesFrom};
@@ -10,7 +10,7 @@ ghost use Rattle.state.specs.View.{stateOf};
 ghost use Rattle.records.specs.Records.{width};
 ghost use Rattle.text.specs.Text.{lineText, linesText};
 ghost use Rattle.session.specs.Lines.{tapeText};
-use libc::STDOUT_FILENO;
+ghost use Rattle.output.specs.Counted.{counted};
 use records::Record;
 use session::Cursor;
 use session::Start;
@@ -30,24 +30,6 @@ fn blank_page() -> [u8; 512_000]
     [0; 512_000]
 }
 
-// The first n bytes of a page.
-fn write_page(page: &[u8], n: usize) {
-    if n <= page.len() {
-        io::write_all(STDOUT_FILENO, &page[..n]);
-    }
-}
-
-// The page is written once it is half full, and the next bytes stand at its start.
-fn turn_page(page: &[u8], n: usize) -> usize
-    ensures { λ r. ⌜ (r ≤ n) × (r < 256000) ⌝ }
-{
-    if n < HALF {
-        return n;
-    }
-    write_page(page, n);
-    0
-}
-
 // The title, the messages of a tape that is not turned back, and the last line; how many bytes they are.
 fn print_messages(
     longs: &mut [u64],
@@ -58,7 +40,7 @@ fn print_messages(
     b: Start,
 ) -> u64
     requires { ⌜ Sized (now longs) (now words) × (leastRoom * width ≤ length (now list)) × (length (now page) ≡ 512000) ⌝ }
-    ensures { λ r. ⌜ r ≡ min (length (lineText titleLine) + length (linesText (linesFrom 1 (stateOf (now (longs .entry)) (now (words .entry))) (messagesFrom (b .count) (drop (b .at) (now (tape .entry))))))) 1000000000000000000 ⌝ }
+    ensures { λ r. ⌜ r ≡ counted (length (lineText titleLine) + length (linesText (linesFrom 1 (stateOf (now (longs .entry)) (now (words .entry))) (messagesFrom (b .count) (drop (b .at) (now (tape .entry))))))) ⌝ }
 {
     let count = b.count;
     let at = session::put_title(page, 0);
@@ -70,18 +52,19 @@ fn print_messages(
     let mut total: u64 = 0;
     while p.position < count {
         p = session::run(longs, words, list, page, tape, count, p, HALF);
-        let left = turn_page(page, p.at);
-        total = number::count_up(total, p.at - left);
-        p.at = left;
+        let end = p.at;
+        let h = output::hand_over(&page[..end], total);
+        total = h.bytes;
+        p.at = 0;
     }
     let n = session::put_last(words, page, p.at);
-    write_page(page, n);
-    number::count_up(total, n)
+    let last = output::hand_over(&page[..n], total);
+    last.bytes
 }
 
 // Every line of a tape, and how many bytes they are.
 pub fn print_tape(tape: &[u8]) -> u64
-    ensures { λ r. ⌜ r ≡ min (length (tapeText (now (tape .entry)))) 1000000000000000000 ⌝ }
+    ensures { λ r. ⌜ r ≡ counted (length (tapeText (now (tape .entry)))) ⌝ }
 {
     let mut page = blank_page();
     let mut longs = [0u64; State::LONGS];
@@ -92,6 +75,6 @@ pub fn print_tape(tape: &[u8]) -> u64
         return print_messages(&mut longs, &mut words, &mut list, &mut page, tape, b);
     }
     let n = session::put_refused(&mut page, 0, 0, b.number);
-    write_page(&page, n);
-    number::count_up(0, n)
+    let h = output::hand_over(&page[..n], 0);
+    h.bytes
 }

@@ -1,10 +1,14 @@
-use mathlib.Core.Path.{_≡_, refl, ap, _∙_}
-use Prim.Native.Nat.{_+_, _-_, _≤_, min}
+use mathlib.Core.Path.{_≡_, refl, ap, sym, _∙_}
+use mathlib.Core.List.{[]}
+use Prim.Native.Nat.{_+_, _-_, _≤_}
 use native.Mathlib.Omega.{arith}
 use lib.ListN.{length}
+use lib.Seq.{length-take-le}
 use Rattle.state.specs.View.{stateOf}
-use Rattle.text.proofs.PutsLaws.{puts-same}
+use Rattle.text.proofs.PutsLaws.{puts-same, puts-room}
+use Rattle.output.specs.Counted.{counted}
 use Rattle.session.proofs.RunLaws.{leftText, left-all, left-last, some-told, none-lost}
+use Rattle.print.proofs.PageLaws.{handed}
 use borrow.Author.Needs.{needs}
 use Rattle.print.proofs.print_messages.Statement.{statement}
 use Rattle.print.proofs.print_messages.Tie as tie
@@ -17,7 +21,7 @@ Inv-loop longs₀ words₀ list₀ page₀ tape count at p₀ total₀ longs wor
     × (length page ≡ length page₀)
     × (length page ≡ 512000)
     × (p .at ≤ 256000)
-    × (min (total + (p .at + length (leftText tape count (p .position) (p .next) (stateOf longs words)))) 1000000000000000000 ≡ min (p₀ .at + length (leftText tape count (p₀ .position) (p₀ .next) (stateOf longs₀ words₀))) 1000000000000000000)
+    × (counted (total + (p .at + length (leftText tape count (p .position) (p .next) (stateOf longs words)))) ≡ counted (p₀ .at + length (leftText tape count (p₀ .position) (p₀ .next) (stateOf longs₀ words₀))))
 
 abbrev μ-loop : tie.MeasureT-loop
 μ-loop longs₀ words₀ list₀ page₀ tape count at p₀ total₀ longs words list page p total = count - p .position
@@ -36,18 +40,18 @@ loop-holds c =
 run-requires : tie.Need-run-requires Inv-loop μ-loop
 run-requires c κs = search needs
 
-turn-page-requires : tie.Need-turn-page-requires Inv-loop μ-loop
-turn-page-requires c κs = search needs
+slice-reshare-prefix-hand-over : tie.Need-slice-reshare-prefix-hand-over Inv-loop μ-loop
+slice-reshare-prefix-hand-over c = puts-room _ _ _ _ _ (c .before .before .before .before .before .before .before .before .run .ensures .told .puts .puts)
 
-sub-count-up : tie.Need-sub-count-up Inv-loop μ-loop
-sub-count-up c = search needs
+slice-aggregate-hand-over : tie.Need-slice-aggregate-hand-over Inv-loop μ-loop
+slice-aggregate-hand-over c = sym (length-take-le _ _ (puts-room _ _ _ _ _ (c .before .before .before .before .before .before .before .before .before .run .ensures .told .puts .puts)))
 
-count-up-requires : tie.Need-count-up-requires Inv-loop μ-loop
-count-up-requires c κs = search needs
+hand-over-requires : tie.Need-hand-over-requires Inv-loop μ-loop
+hand-over-requires c κs = search needs
 
 loop-less : tie.Need-loop-less Inv-loop μ-loop
 loop-less c =
-    let R = c .before .before .before .before .before .before .before .before .before .before .before .before in
+    let R = c .before .before .before .before .before .before .before .before .before .before in
     let I = R .before .before .before .before .before in
     let h = I .if1 .taken in
     let low = I .before .before .loop .inv .5 in
@@ -56,23 +60,25 @@ loop-less c =
 
 loop-again : tie.Need-loop-again Inv-loop μ-loop
 loop-again c =
-    let T = c .before .before in
-    let R = T .before .before .before .before .before .before .before .before .before .before in
+    let R = c .before .before .before .before .before .before .before .before .before .before in
     let v = R .before .before .before .before .before .before .before .loop .inv in
-    let t = T .turn-page .ensures in
-    let n = c .count-up .ensures in
+    let p = R .run .ensures .told .puts .puts in
     let w = none-lost _ _ _ _ _ _ _ _ _ (R .run .ensures) (omega (arith, v .4)) (omega (arith, v .5)) .1 in
-    let same = puts-same _ _ _ _ _ (R .run .ensures .told .puts .puts) in
-    (search needs, search needs, search needs, same ∙ v .3, same ∙ v .4, omega (arith, t .1), omega (arith, n, w, t .0, v .6))
+    let same = puts-same _ _ _ _ _ p in
+    let h = handed _ _ _ _ _ _ _ p (c .hand-over .ensures) in
+    (search needs, search needs, search needs, same ∙ v .3, same ∙ v .4, omega arith, omega (arith, h, w, v .6))
 
 put-last-requires : tie.Need-put-last-requires Inv-loop μ-loop
 put-last-requires c κs = search needs
 
-write-page-requires : tie.Need-write-page-requires Inv-loop μ-loop
-write-page-requires c κs = search needs
+slice-reshare-prefix-hand-over-2 : tie.Need-slice-reshare-prefix-hand-over-2 Inv-loop μ-loop
+slice-reshare-prefix-hand-over-2 c = puts-room _ _ _ _ _ (c .before .before .put-last .ensures [] .0)
 
-count-up-requires-2 : tie.Need-count-up-requires-2 Inv-loop μ-loop
-count-up-requires-2 c κs = search needs
+slice-aggregate-hand-over-2 : tie.Need-slice-aggregate-hand-over-2 Inv-loop μ-loop
+slice-aggregate-hand-over-2 c = sym (length-take-le _ _ (puts-room _ _ _ _ _ (c .before .before .before .put-last .ensures [] .0)))
+
+hand-over-requires-2 : tie.Need-hand-over-requires-2 Inv-loop μ-loop
+hand-over-requires-2 c κs = search needs
 
 same-length : tie.Need-same-length Inv-loop μ-loop
 same-length c = search needs
@@ -88,7 +94,7 @@ same-length-4 c = search needs
 
 returns : tie.Need-returns Inv-loop μ-loop
 returns c =
-    let P = c .before .before .before .before .before in
+    let P = c .before .before .before .before in
     let E = P .before .before .before in
     let L = E .before .before in
     let T = L .before .before .before in
@@ -96,7 +102,7 @@ returns c =
     let a = B .args in
     let t = T .put-title .ensures in
     let l = P .put-last .ensures (L .loop .longs) in
-    let n = c .count-up2 .ensures in
+    let n = handed _ _ _ _ _ _ _ (l .0) (c .hand-over2 .ensures) in
     let p = L .loop .p in
     let last = ap length (left-last (a .tape .now) (a .b .count) (p .position) (p .next) (stateOf (L .loop .longs) (L .loop .words)) (E .if1 .left)) in
     let all = ap length (left-all (a .tape .now) (a .b .count) (a .b .at) (stateOf (a .longs .now) (a .words .now))) in
@@ -113,14 +119,15 @@ print-messages-spec =
     put-title-requires
     loop-holds
     run-requires
-    turn-page-requires
-    sub-count-up
-    count-up-requires
+    slice-reshare-prefix-hand-over
+    slice-aggregate-hand-over
+    hand-over-requires
     loop-less
     loop-again
     put-last-requires
-    write-page-requires
-    count-up-requires-2
+    slice-reshare-prefix-hand-over-2
+    slice-aggregate-hand-over-2
+    hand-over-requires-2
     same-length
     same-length-2
     same-length-3

@@ -1,11 +1,14 @@
-use mathlib.Core.Path.{ap}
+use mathlib.Core.Path.{ap, sym}
 use native.Mathlib.Omega.{arith}
 use lib.ListN.{length, length-append, drop}
+use lib.Seq.{length-take-le}
 use Rattle.rules.specs.Tape.{messagesFrom}
 use Rattle.rules.specs.Print.{titleLine, linesFrom}
 use Rattle.state.specs.View.{stateOf}
 use Rattle.text.specs.Text.{lineText, linesText}
+use Rattle.text.proofs.PutsLaws.{puts-room}
 use Rattle.session.proofs.TapeLaws.{back-text, read-text}
+use Rattle.print.proofs.PageLaws.{handed}
 use borrow.Author.Needs.{needs}
 use Rattle.print.proofs.print_tape.Statement.{statement}
 use Rattle.print.proofs.print_tape.Tie as tie
@@ -57,18 +60,18 @@ slice-aggregate-put-refused c = search needs
 put-refused-requires : tie.Need-put-refused-requires
 put-refused-requires c κs = search needs
 
-slice-aggregate-write-page : tie.Need-slice-aggregate-write-page
-slice-aggregate-write-page c = search needs
+array-share-prefix-page : tie.Need-array-share-prefix-page
+array-share-prefix-page c = puts-room _ _ _ _ _ (c .before .put-refused .ensures .0)
 
-write-page-requires : tie.Need-write-page-requires
-write-page-requires c κs = search needs
+slice-aggregate-hand-over : tie.Need-slice-aggregate-hand-over
+slice-aggregate-hand-over c = sym (length-take-le _ _ (puts-room _ _ _ _ _ (c .before .before .put-refused .ensures .0)))
 
-count-up-requires : tie.Need-count-up-requires
-count-up-requires c κs = search needs
+hand-over-requires : tie.Need-hand-over-requires
+hand-over-requires c κs = search needs
 
 returns-2 : tie.Need-returns-2
 returns-2 c =
-    let P = c .before .before .before .before in
+    let P = c .before .before .before in
     let E = P .before .before in
     let G = E .before .before .before .before in
     let tape = G .before .before .before .before .before .args .tape .now in
@@ -76,7 +79,7 @@ returns-2 c =
     let l = P .put-refused .ensures in
     let end = l .0 .end in
     let size = G .before .before .before .blank-page .ensures in
-    let r = c .count-up .ensures in
+    let r = handed _ _ _ _ _ _ _ (l .0) (c .hand-over .ensures) in
     omega (arith, all, end, l .1, size, r)
 
 pub print-tape-spec : {M : Type 1} → statement M
@@ -95,7 +98,7 @@ print-tape-spec =
     returns
     slice-aggregate-put-refused
     put-refused-requires
-    slice-aggregate-write-page
-    write-page-requires
-    count-up-requires
+    array-share-prefix-page
+    slice-aggregate-hand-over
+    hand-over-requires
     returns-2)
