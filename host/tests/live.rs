@@ -127,8 +127,11 @@ struct Copy {
 impl Copy {
     fn start() -> Copy {
         let mut command = Command::new(LIVE);
-        let mut child =
-            command.stdin(Stdio::piped()).stdout(Stdio::piped()).spawn().expect("`rt check live` builds target/bin/live");
+        let mut child = command
+            .stdin(Stdio::piped())
+            .stdout(Stdio::piped())
+            .spawn()
+            .expect("`rt check live` builds target/bin/live");
         let input = child.stdin.take().expect("it is piped");
         let mut from = child.stdout.take().expect("it is piped");
         let (to, output) = channel();
@@ -184,7 +187,12 @@ fn run(input: &[u8]) -> Vec<u8> {
 
 fn agree(input: &[u8], what: &str) {
     let (printed, expected) = (run(input), answers(input).concat());
-    assert!(printed == expected, "{what}: {} and {}", String::from_utf8_lossy(&printed), String::from_utf8_lossy(&expected));
+    assert!(
+        printed == expected,
+        "{what}: {} and {}",
+        String::from_utf8_lossy(&printed),
+        String::from_utf8_lossy(&expected)
+    );
 }
 
 /// Pieces are sent one after another; each answer must come as soon as its last byte is sent.
