@@ -27,3 +27,7 @@ pub mod CountLaws
 pub mod BoundLaws
 pub mod RoomLaws
 pub mod CentsLaws
+pub mod SpellingLaws
+pub mod SectionLaws
+pub mod FormLaws
+pub mod HandedLaws
