@@ -2,7 +2,7 @@
 
 use second::gen::Profile;
 use second::live::{live, live_input};
-use second::print::tapeprint;
+use second::print::{tapeform, tapeprint};
 use std::ffi::OsStr;
 use std::io::{self, Read, Write};
 use std::ops::Range;
@@ -14,13 +14,14 @@ use std::thread;
 pub enum Twin {
     Tapeprint,
     Live,
+    Tapeform,
 }
 
 impl Twin {
     /// What it reads of a tape. A tape without a session goes to `live` as it is.
     fn input(self, tape: Vec<u8>) -> Vec<u8> {
         match self {
-            Twin::Tapeprint => tape,
+            Twin::Tapeprint | Twin::Tapeform => tape,
             Twin::Live => live_input(&tape).unwrap_or(tape),
         }
     }
@@ -34,6 +35,16 @@ impl Twin {
                 live(input, &mut output)?;
                 Ok(output)
             }
+            Twin::Tapeform => Ok(tapeform(input)),
+        }
+    }
+
+    /// Where what it printed first differs from ours, and what each has there.
+    fn first_difference(self, theirs: &[u8], ours: &[u8]) -> Option<Difference> {
+        match self {
+            Twin::Tapeprint | Twin::Live => first_line(theirs, ours),
+            // A form is not text.
+            Twin::Tapeform => first_byte(theirs, ours),
         }
     }
 }
@@ -63,10 +74,14 @@ fn compare_one(twin: Twin, command: &OsStr, tape: Vec<u8>) -> Result<(), String>
     let name = command.to_string_lossy();
     let (printed, status) = run(command, &input, expected.len() + MOST_MORE)
         .map_err(|error| format!("cannot run {name}: {error}"))?;
-    if let Some((line, theirs, ours)) = first_difference(&printed, &expected) {
-        let [theirs, ours] = [theirs, ours].map(show);
+    if let Some(difference) = twin.first_difference(&printed, &expected) {
+        let Difference {
+            place,
+            theirs,
+            ours,
+        } = difference;
         return Err(format!(
-            "line {line} differs\n  {name}: {theirs}\n  second: {ours}"
+            "{place} differs\n  {name}: {theirs}\n  second: {ours}"
         ));
     }
     if !status.success() {
@@ -108,26 +123,47 @@ fn run(command: &OsStr, input: &[u8], most: usize) -> io::Result<(Vec<u8>, ExitS
     Ok((printed, status))
 }
 
-/// The first line, from 1, in which two texts differ, as each has it.
-type Difference<'a> = (usize, Option<&'a [u8]>, Option<&'a [u8]>);
+/// A place at which two outputs differ, and what each has there.
+struct Difference {
+    place: String,
+    theirs: String,
+    ours: String,
+}
 
-fn first_difference<'a>(theirs: &'a [u8], ours: &'a [u8]) -> Option<Difference<'a>> {
-    let lines = |text: &'a [u8]| text.split_inclusive(|&byte| byte == b'\n');
-    let (mut theirs, mut ours) = (lines(theirs), lines(ours));
-    for line in 1.. {
+/// The first line, from 1, in which two texts differ. A line is shown with its end, if it has one:
+/// the end may be all that differs.
+fn first_line(theirs: &[u8], ours: &[u8]) -> Option<Difference> {
+    let lines = |text| <[u8]>::split_inclusive(text, |&byte| byte == b'\n');
+    let show = |line| format!("{:?}", String::from_utf8_lossy(line));
+    first_difference(("line", 1), lines(theirs), lines(ours), show)
+}
+
+/// The first byte, from 0, in which two outputs differ.
+fn first_byte(theirs: &[u8], ours: &[u8]) -> Option<Difference> {
+    let show = |byte| format!("0x{byte:02x}");
+    first_difference(("byte", 0), theirs.iter(), ours.iter(), show)
+}
+
+/// The first item in which two sequences differ, by the word and number that places have.
+fn first_difference<T: PartialEq>(
+    (word, first): (&str, usize),
+    mut theirs: impl Iterator<Item = T>,
+    mut ours: impl Iterator<Item = T>,
+    show: impl Fn(T) -> String,
+) -> Option<Difference> {
+    for place in first.. {
         match (theirs.next(), ours.next()) {
             (None, None) => return None,
-            (a, b) if a != b => return Some((line, a, b)),
+            (a, b) if a != b => {
+                let show = |item: Option<T>| item.map_or("nothing".into(), &show);
+                return Some(Difference {
+                    place: format!("{word} {place}"),
+                    theirs: show(a),
+                    ours: show(b),
+                });
+            }
             _ => {}
         }
     }
     None
-}
-
-/// A line with its end, if it has one: the end may be all that differs.
-fn show(line: Option<&[u8]>) -> String {
-    match line {
-        Some(line) => format!("{:?}", String::from_utf8_lossy(line)),
-        None => "nothing".into(),
-    }
 }

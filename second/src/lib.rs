@@ -2,13 +2,15 @@
 //!
 //! The modules follow the document: [`strategy`] (Strategy and series), [`market`] (Prices),
 //! [`book`] and [`engine`] (Order and auction life, Where a message is turned back),
-//! [`execution`] (Execution), [`tape`] and [`print`] (Tape); [`live`] runs a session that never has
-//! to be a tape. Nothing here reads or writes anything but its arguments; the binary does that.
+//! [`execution`] (Execution), [`tape`] and [`print`] (Tape); [`form`] is the written form of a tape
+//! (M-100), and [`live`] runs a session that never has to be a tape. Nothing here reads or writes
+//! anything but its arguments; the binary does that.
 
 pub mod book;
 pub mod engine;
 pub mod execution;
 pub mod explain;
+pub mod form;
 pub mod gen;
 pub mod live;
 pub mod market;

@@ -6,7 +6,7 @@ use compare::{compare, Twin};
 use second::explain::explain;
 use second::gen::{gen, Profile, PROFILES};
 use second::live::{live, live_input};
-use second::print::tapeprint;
+use second::print::{tapeform, tapeprint};
 use second::tape::{Misfit, Tape};
 use second::text::{dump, make};
 use std::ffi::{OsStr, OsString};
@@ -20,13 +20,14 @@ usage: second COMMAND
   make [TEXT]         the tape of a session in text
   dump [TAPE]         the text of a tape
   explain [TAPE]      a tape told message by message
+  form [TAPE]         the written form of a tape
   gen PROFILE SEED    a random tape
   gen --list          the profiles
   live                answers the opening and each message on standard input at once
   live-input [TAPE]   a tape's session as live reads it
-  compare [--live] COMMAND PROFILE FIRST-SEED COUNT
+  compare [--live | --form] COMMAND PROFILE FIRST-SEED COUNT
                       runs a command on random tapes: it must print what tapeprint does,
-                      or live; COUNT tapes of the profile, or of each if it is `all`
+                      or live, or form; COUNT tapes of the profile, or of each if it is `all`
 A file left out is standard input.
 ";
 
@@ -57,6 +58,7 @@ fn run(arguments: &[OsString]) -> Result<Vec<u8>, String> {
             .map(String::into_bytes)
             .map_err(refused_60),
         Some("explain") => Ok(explain(&read_tape(rest)?).into_bytes()),
+        Some("form") => Ok(tapeform(&read_tape(rest)?)),
         Some("gen") => gen_command(rest),
         Some("live") => live_command(rest).map(|()| Vec::new()),
         Some("compare") => compare_command(rest),
@@ -100,6 +102,7 @@ fn gen_command(arguments: &[OsString]) -> Result<Vec<u8>, String> {
 fn compare_command(arguments: &[OsString]) -> Result<Vec<u8>, String> {
     let (twin, rest) = match arguments {
         [flag, rest @ ..] if flag == "--live" => (Twin::Live, rest),
+        [flag, rest @ ..] if flag == "--form" => (Twin::Tapeform, rest),
         _ => (Twin::Tapeprint, arguments),
     };
     let [command, profile, first, count] = rest else {

@@ -1,7 +1,8 @@
-//! Running a tape through the engine, and what tapeprint prints of it.
+//! Running a tape through the engine, and what tapeprint and tapeform print of it.
 
 use crate::engine::{Engine, Outcome};
 use crate::execution::{Contra, Fill, FillList};
+use crate::form::form;
 use crate::strategy::Leg;
 use crate::tape::Tape;
 use crate::Refusal;
@@ -54,6 +55,11 @@ pub fn last_line(engine: &Engine) -> String {
     format!("open {orders} answers {responses}\n")
 }
 
+/// A tape or an opening that is refused "prints the one line".
+fn refused_line(number: Refusal) -> String {
+    format!("refused 0 {number}\n")
+}
+
 /// What tapeprint prints of a tape.
 pub fn tapeprint(bytes: &[u8]) -> String {
     let mut text = format!("{TITLE}\n");
@@ -68,6 +74,11 @@ pub fn tapeprint(bytes: &[u8]) -> String {
     });
     match run {
         Ok(engine) => text + &last_line(&engine),
-        Err(number) => format!("refused 0 {number}\n"),
+        Err(number) => refused_line(number),
     }
+}
+
+/// What tapeform prints of a tape: the bytes of its form.
+pub fn tapeform(bytes: &[u8]) -> Vec<u8> {
+    form(bytes).unwrap_or_else(|number| refused_line(number).into_bytes())
 }

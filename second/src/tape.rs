@@ -5,6 +5,7 @@ use crate::message::{Message, Request, Terms};
 use crate::strategy::{Cents, Leg, Settings};
 use crate::{refuse_if, Refusal};
 use std::fmt;
+use std::ops::Range;
 
 /// "Header, 40 bytes."
 #[derive(Clone, Copy, PartialEq, Eq, Debug, Default)]
@@ -51,6 +52,33 @@ pub enum Field {
     Ask,
     AskSize,
     Time,
+}
+
+impl Field {
+    /// Where in a record the field begins.
+    pub const fn place(self) -> usize {
+        match self {
+            Field::Side => 1,
+            Field::Account => 2,
+            Field::Wish | Field::Leg => 3,
+            Field::Id => 4,
+            Field::Participant => 8,
+            Field::Units | Field::BidSize => 12,
+            Field::Price | Field::Bid => 16,
+            Field::Ask => 20,
+            Field::AskSize => 24,
+            Field::Time => 28,
+        }
+    }
+
+    /// "One byte each", "four bytes each", "64-bit time".
+    pub const fn bytes(self) -> usize {
+        match self {
+            Field::Side | Field::Account | Field::Wish | Field::Leg => 1,
+            Field::Time => 8,
+            _ => 4,
+        }
+    }
 }
 
 /// A row of the table that "says which fields each kind uses".
@@ -133,15 +161,17 @@ fn u64_at(record: &[u8], place: usize) -> u64 {
 
 impl Header {
     pub const BYTES: usize = 40;
+    const LEG_COUNT: usize = 0;
+    pub const LEG_OFFSET: usize = 2;
+    pub const MESSAGE_COUNT: usize = 4;
+    pub const MESSAGE_OFFSET: usize = 6;
 
     pub fn read(tape: &[u8]) -> Header {
-        let [leg_count, leg_offset, message_count, message_offset] =
-            [0, 2, 4, 6].map(|place| u16_at(tape, place));
         Header {
-            leg_count,
-            leg_offset,
-            message_count,
-            message_offset,
+            leg_count: u16_at(tape, Header::LEG_COUNT),
+            leg_offset: u16_at(tape, Header::LEG_OFFSET),
+            message_count: u16_at(tape, Header::MESSAGE_COUNT),
+            message_offset: u16_at(tape, Header::MESSAGE_OFFSET),
             settings: Settings {
                 interval: u16_at(tape, 8),
                 distance: u16_at(tape, 10),
@@ -152,6 +182,11 @@ impl Header {
                 opening_time: u64_at(tape, 32),
             },
         }
+    }
+
+    /// Writes a count or an offset into a tape's header, at its place.
+    pub fn set(tape: &mut [u8], place: usize, number: u16) {
+        tape[place..place + 2].copy_from_slice(&number.to_le_bytes());
     }
 
     pub fn write(&self, tape: &mut Vec<u8>) {
@@ -201,16 +236,16 @@ impl Record {
     pub fn read(record: &[u8]) -> Record {
         Record {
             kind: record[0],
-            side: record[1],
-            account: record[2],
-            wish_or_leg: record[3],
-            id: u32_at(record, 4),
-            participant: u32_at(record, 8),
-            units: u32_at(record, 12),
-            price: cents_at(record, 16),
-            ask: cents_at(record, 20),
-            ask_size: u32_at(record, 24),
-            time: u64_at(record, 28),
+            side: record[Field::Side.place()],
+            account: record[Field::Account.place()],
+            wish_or_leg: record[Field::Wish.place()],
+            id: u32_at(record, Field::Id.place()),
+            participant: u32_at(record, Field::Participant.place()),
+            units: u32_at(record, Field::Units.place()),
+            price: cents_at(record, Field::Price.place()),
+            ask: cents_at(record, Field::Ask.place()),
+            ask_size: u32_at(record, Field::AskSize.place()),
+            time: u64_at(record, Field::Time.place()),
         }
     }
 
@@ -407,22 +442,27 @@ impl<'a> Tape<'a> {
     }
 }
 
-/// Writes a tape in its plain form: legs straight after the header, messages straight after them.
-/// `None` if there is too much for a tape.
+/// The messages' places in a tape whose legs stand straight after the header and whose messages
+/// stand straight after them. The tape ends where they end.
+pub fn plain_messages(legs: usize, messages: usize) -> Range<usize> {
+    let from = Header::BYTES + legs * Leg::BYTES;
+    from..from + messages * Record::BYTES
+}
+
+/// Writes a tape laid out so. `None` if there is too much for a tape.
 pub fn write_tape(settings: &Settings, legs: &[Leg], records: &[Record]) -> Option<Vec<u8>> {
-    let message_offset = Header::BYTES + legs.len() * Leg::BYTES;
-    let length = message_offset + records.len() * Record::BYTES;
-    if length > Tape::MOST_BYTES {
+    let messages = plain_messages(legs.len(), records.len());
+    if messages.end > Tape::MOST_BYTES {
         return None;
     }
     let header = Header {
         leg_count: legs.len() as u16,
         leg_offset: Header::BYTES as u16,
         message_count: records.len() as u16,
-        message_offset: message_offset as u16,
+        message_offset: messages.start as u16,
         settings: *settings,
     };
-    let mut tape = Vec::with_capacity(length);
+    let mut tape = Vec::with_capacity(messages.end);
     header.write(&mut tape);
     legs.iter().for_each(|leg| leg.write(&mut tape));
     records.iter().for_each(|record| record.write(&mut tape));

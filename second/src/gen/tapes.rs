@@ -23,32 +23,23 @@ fn short_tape_with_messages(random: &mut Random) -> Vec<u8> {
     }
 }
 
-/// Writes the 16-bit number at a place of the header.
-fn set_header(tape: &mut [u8], place: usize, number: u16) {
-    tape[place..place + 2].copy_from_slice(&number.to_le_bytes());
-}
-
-const LEG_OFFSET: usize = 2;
-const MESSAGE_COUNT: usize = 4;
-const MESSAGE_OFFSET: usize = 6;
-
 pub fn overlap(random: &mut Random) -> Vec<u8> {
     let mut tape = short_tape_with_messages(random);
-    let legs_end = u16::from_le_bytes([tape[MESSAGE_OFFSET], tape[MESSAGE_OFFSET + 1]]);
+    let legs_end = Header::read(&tape).message_offset;
     // Room enough that nothing runs past the end.
     tape.resize(tape.len() + 60, 0);
     match random.below(4) {
-        0 => set_header(&mut tape, LEG_OFFSET, random.below(40) as u16),
-        1 => set_header(&mut tape, MESSAGE_OFFSET, random.below(40) as u16),
-        2 => set_header(
+        0 => Header::set(&mut tape, Header::LEG_OFFSET, random.below(40) as u16),
+        1 => Header::set(&mut tape, Header::MESSAGE_OFFSET, random.below(40) as u16),
+        2 => Header::set(
             &mut tape,
-            MESSAGE_OFFSET,
+            Header::MESSAGE_OFFSET,
             41 + random.below(u64::from(legs_end) - 41) as u16,
         ),
         _ => {
             // One shared byte, or none: the legs moved towards the messages.
             let shift = random.below(3) as u16;
-            set_header(&mut tape, LEG_OFFSET, 40 + shift);
+            Header::set(&mut tape, Header::LEG_OFFSET, 40 + shift);
         }
     }
     tape
@@ -83,7 +74,7 @@ pub fn size(random: &mut Random) -> Vec<u8> {
     tape.resize(length, random.number() as u8);
     if random.once_in(4) && tape.len() > Header::BYTES {
         let count = random.pick(&[u16::MAX, 1_820, 1_819, 1_000]);
-        set_header(&mut tape, MESSAGE_COUNT, count);
+        Header::set(&mut tape, Header::MESSAGE_COUNT, count);
     }
     tape
 }
