@@ -12,7 +12,7 @@ use std::ops::Range;
 /// A tape's form; a refused tape has none, but its 60 or 61.
 pub fn form(tape: &[u8]) -> Result<Vec<u8>, Refusal> {
     let tape = Tape::read(tape)?;
-    let mut form = vec![0; messages(&tape).end];
+    let mut form = vec![0; messages_in_form(&tape).end];
     write(&tape, &mut form);
     Ok(form)
 }
@@ -23,21 +23,21 @@ pub fn form(tape: &[u8]) -> Result<Vec<u8>, Refusal> {
 /// after 60 and 61, and under each of the three it is left untouched."
 pub fn write_form(tape: &[u8], buffer: &mut [u8]) -> Result<usize, Refusal> {
     let tape = Tape::read(tape)?;
-    let length = messages(&tape).end;
+    let length = messages_in_form(&tape).end;
     let form = buffer.get_mut(..length).ok_or(70)?;
     write(&tape, form);
     Ok(length)
 }
 
 /// The messages' places in a tape's form, which ends where they end.
-fn messages(tape: &Tape) -> Range<usize> {
+fn messages_in_form(tape: &Tape) -> Range<usize> {
     let header = &tape.header;
     plain_messages(header.leg_count.into(), header.message_count.into())
 }
 
 /// Writes a tape's form over bytes that are as many.
 fn write(tape: &Tape, form: &mut [u8]) {
-    let messages = messages(tape);
+    let messages = messages_in_form(tape);
     form[..Header::BYTES].copy_from_slice(tape.header_bytes());
     Header::set(form, Header::LEG_OFFSET, Header::BYTES as u16);
     // A form is no longer than its tape, so this fits.

@@ -26,7 +26,7 @@ const fn profile(
     }
 }
 
-pub const PROFILES: [Profile; 28] = [
+pub const PROFILES: [Profile; 29] = [
     profile("auction", "auctions, one after another", sessions::auction),
     profile("badkind", "a message of no kind: 61", sessions::bad_kind),
     profile(
@@ -107,6 +107,11 @@ pub const PROFILES: [Profile; 28] = [
         "size",
         "tapes of the least and the most bytes: 60",
         tapes::size,
+    ),
+    profile(
+        "spelling",
+        "one session in other bytes: gaps, offsets, section order, unused fields, wishes",
+        tapes::spelling,
     ),
     profile(
         "times",

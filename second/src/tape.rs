@@ -184,6 +184,16 @@ impl Header {
         }
     }
 
+    /// The legs' places in the tape; an empty section has none.
+    pub fn legs(&self) -> Range<usize> {
+        section(self.leg_offset, self.leg_count, Leg::BYTES)
+    }
+
+    /// The messages' places in the tape; an empty section has none.
+    pub fn messages(&self) -> Range<usize> {
+        section(self.message_offset, self.message_count, Record::BYTES)
+    }
+
     /// Writes a count or an offset into a tape's header, at its place.
     pub fn set(tape: &mut [u8], place: usize, number: u16) {
         tape[place..place + 2].copy_from_slice(&number.to_le_bytes());
@@ -347,10 +357,9 @@ impl fmt::Display for Misfit {
     }
 }
 
-/// The bytes of a section, from and up to; an empty section has none.
-fn section(offset: u16, count: u16, bytes: usize) -> (usize, usize) {
+fn section(offset: u16, count: u16, bytes: usize) -> Range<usize> {
     let from = usize::from(offset);
-    (from, from + usize::from(count) * bytes)
+    from..from + usize::from(count) * bytes
 }
 
 impl<'a> Tape<'a> {
@@ -366,23 +375,21 @@ impl<'a> Tape<'a> {
             return Err(Misfit::TooLong);
         }
         let header = Header::read(bytes);
-        let legs = section(header.leg_offset, header.leg_count, Leg::BYTES);
-        let messages = section(header.message_offset, header.message_count, Record::BYTES);
-        let not_empty = |section: (usize, usize)| section.0 < section.1;
-        if not_empty(legs) && legs.0 < Header::BYTES {
+        let (legs, messages) = (header.legs(), header.messages());
+        if !legs.is_empty() && legs.start < Header::BYTES {
             return Err(Misfit::LegsOverHeader);
         }
-        if not_empty(messages) && messages.0 < Header::BYTES {
+        if !messages.is_empty() && messages.start < Header::BYTES {
             return Err(Misfit::MessagesOverHeader);
         }
-        if not_empty(legs) && legs.1 > bytes.len() {
+        if !legs.is_empty() && legs.end > bytes.len() {
             return Err(Misfit::LegsPastEnd);
         }
-        if not_empty(messages) && messages.1 > bytes.len() {
+        if !messages.is_empty() && messages.end > bytes.len() {
             return Err(Misfit::MessagesPastEnd);
         }
-        let both = not_empty(legs) && not_empty(messages);
-        if both && legs.0 < messages.1 && messages.0 < legs.1 {
+        let both = !legs.is_empty() && !messages.is_empty();
+        if both && legs.start < messages.end && messages.start < legs.end {
             return Err(Misfit::SectionsOverlap);
         }
         Ok(Tape { bytes, header })
@@ -409,17 +416,11 @@ impl<'a> Tape<'a> {
     }
 
     pub fn leg_bytes(&self) -> &'a [u8] {
-        let header = &self.header;
-        self.section_bytes(section(header.leg_offset, header.leg_count, Leg::BYTES))
+        self.section_bytes(self.header.legs())
     }
 
     pub fn record_bytes(&self) -> &'a [u8] {
-        let header = &self.header;
-        self.section_bytes(section(
-            header.message_offset,
-            header.message_count,
-            Record::BYTES,
-        ))
+        self.section_bytes(self.header.messages())
     }
 
     pub fn legs(&self) -> impl Iterator<Item = Leg> + 'a {
@@ -437,8 +438,8 @@ impl<'a> Tape<'a> {
     }
 
     /// An empty section may stand anywhere, also past the end.
-    fn section_bytes(&self, (from, to): (usize, usize)) -> &'a [u8] {
-        self.bytes.get(from..to).unwrap_or(&[])
+    fn section_bytes(&self, section: Range<usize>) -> &'a [u8] {
+        self.bytes.get(section).unwrap_or(&[])
     }
 }
 

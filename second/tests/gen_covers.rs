@@ -2,9 +2,12 @@
 //! occurs, and often enough.
 
 use second::engine::{Cause, Outcome};
+use second::form::form;
 use second::gen::{gen, PROFILES};
 use second::print::run_tape;
+use second::tape::{Field, Header, Kind, Tape, KINDS};
 use std::collections::BTreeMap;
+use std::ops::Range;
 
 const SEEDS: u64 = 80;
 
@@ -135,4 +138,132 @@ fn the_wrong_profile_has_every_number_of_a_message() {
         let times = counts.get(&what).copied().unwrap_or(0);
         assert!(times >= 5, "{what} occurs {times} times");
     }
+}
+
+/// Adds how a tape that is not refused is spelled.
+fn count_spellings(bytes: &[u8], tape: &Tape, mut add: impl FnMut(String)) {
+    let mut add_if = |condition: bool, what: &str| {
+        if condition {
+            add(what.into());
+        }
+    };
+    let (legs, messages) = (tape.header.legs(), tape.header.messages());
+    let neither = legs.is_empty() && messages.is_empty();
+    add_if(neither, "neither legs nor messages");
+    for (word, section, other) in [("legs", &legs, &messages), ("messages", &messages, &legs)] {
+        let at = section.start;
+        if section.is_empty() {
+            add_if(at < Header::BYTES, &format!("no {word}, in the header"));
+            let inside = other.start < at && at < other.end;
+            add_if(inside, &format!("no {word}, in the other section"));
+            add_if(at > bytes.len(), &format!("no {word}, past the end"));
+        } else {
+            add_if(at % 2 == 1, &format!("{word} at an odd offset"));
+            add_if(at > 32_767, &format!("{word} at an offset over 32,767"));
+        }
+    }
+    if !legs.is_empty() && !messages.is_empty() {
+        let legs_first = legs.start < messages.start;
+        add_if(legs_first, "legs first");
+        add_if(!legs_first, "messages first");
+        let first = if legs_first { &legs } else { &messages };
+        let second = if legs_first { &messages } else { &legs };
+        add_if(first.start > Header::BYTES, "a gap before");
+        add_if(second.start > first.end, "a gap between");
+        add_if(bytes.len() > second.end, "a gap after");
+    }
+    let leg_count = tape.header.leg_count;
+    add_if(leg_count > 4, "more than four legs");
+    for (record, bytes) in tape.records().zip(tape.record_bytes().chunks(36)) {
+        let kind = Kind::of_number(record.kind).unwrap();
+        let word = kind.word;
+        let uses = |field: Field| kind.fields.contains(&field);
+        for places in unused(kind) {
+            let noise = bytes[places.clone()].iter().any(|&byte| byte != 0);
+            add_if(noise, &format!("{word} with noise at {}", places.start));
+        }
+        let wish = uses(Field::Wish).then_some(record.wish_or_leg);
+        add_if(wish.is_some_and(|wish| wish > 1), "a wish over 1");
+        let wrong_side = uses(Field::Side) && !b"BS".contains(&record.side);
+        add_if(wrong_side, &format!("{word} of a wrong side"));
+        let wrong_account = uses(Field::Account) && ![1, 2].contains(&record.account);
+        add_if(wrong_account, &format!("{word} of a wrong account"));
+        let wrong_leg = uses(Field::Leg) && u16::from(record.wish_or_leg) >= leg_count;
+        add_if(wrong_leg, &format!("{word} of a wrong leg"));
+    }
+}
+
+/// The places of the fields that a kind does not use.
+fn unused(kind: &Kind) -> Vec<Range<usize>> {
+    let ends = [1, 2, 3, 4, 8, 12, 16, 20, 24, 28];
+    let fields = ends.windows(2).map(|ends| ends[0]..ends[1]);
+    let used = |place: usize| kind.fields.iter().any(|field| field.place() == place);
+    fields.filter(|places| !used(places.start)).collect()
+}
+
+#[test]
+fn the_spelling_profile_has_every_spelling() {
+    let mut counts: BTreeMap<String, u64> = BTreeMap::new();
+    for seed in 0..4 * SEEDS {
+        let bytes = gen("spelling", seed).unwrap();
+        let mut add = |what: String| *counts.entry(what).or_default() += 1;
+        match Tape::read(&bytes) {
+            Ok(tape) => count_spellings(&bytes, &tape, add),
+            Err(number) => add(format!("refused {number}")),
+        }
+    }
+    println!("{counts:#?}");
+    let others = [
+        "refused 60",
+        "refused 61",
+        "neither legs nor messages",
+        "no legs, in the header",
+        "no legs, in the other section",
+        "no legs, past the end",
+        "no messages, in the header",
+        "no messages, in the other section",
+        "no messages, past the end",
+        "legs at an odd offset",
+        "legs at an offset over 32,767",
+        "messages at an odd offset",
+        "messages at an offset over 32,767",
+        "legs first",
+        "messages first",
+        "a gap before",
+        "a gap between",
+        "a gap after",
+        "more than four legs",
+        "a wish over 1",
+        "order of a wrong side",
+        "response of a wrong side",
+        "modify of a wrong side",
+        "order of a wrong account",
+        "response of a wrong account",
+        "local of a wrong leg",
+        "national of a wrong leg",
+    ];
+    let noise = KINDS.iter().flat_map(|kind| {
+        let places = unused(kind).into_iter();
+        places.map(|places| format!("{} with noise at {}", kind.word, places.start))
+    });
+    let noise: Vec<String> = noise.collect();
+    // Of nine fields besides the time the kinds use 5, 3, 7, 6, 5, 2 and none.
+    assert_eq!(noise.len(), 4 + 6 + 2 + 3 + 4 + 7 + 9);
+    for what in others.map(String::from).iter().chain(&noise) {
+        let times = counts.get(what).copied().unwrap_or(0);
+        assert!(times >= 5, "{what} occurs {times} times");
+    }
+}
+
+/// Most of its tapes have a form and do not stand in it, and many open.
+#[test]
+fn the_spelling_profile_has_tapes_to_be_written_otherwise() {
+    let (mut changed, mut opened) = (0, 0);
+    for seed in 0..SEEDS {
+        let tape = gen("spelling", seed).unwrap();
+        changed += u64::from(form(&tape).is_ok_and(|form| form != tape));
+        opened += u64::from(run_tape(&tape, |_, _, _| ()).is_ok());
+    }
+    assert!(changed >= SEEDS / 2, "{changed}");
+    assert!(opened >= SEEDS / 4, "{opened}");
 }

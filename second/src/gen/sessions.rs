@@ -64,6 +64,12 @@ pub fn bad_kind(random: &mut Random) -> Vec<u8> {
     let times = 2 + random.below(20);
     let mut script = session(random, plan, times, Script::anything);
     script.order(false);
+    spoil_kind(&mut script);
+    script.tape()
+}
+
+/// Makes one of the messages, of which there are some, meet 61.
+pub fn spoil_kind(script: &mut Script) {
     let kind = match script.random.below(3) {
         0 => 0,
         1 => 8 + script.random.below(2) as u8,
@@ -71,7 +77,6 @@ pub fn bad_kind(random: &mut Random) -> Vec<u8> {
     };
     let at = script.random.below(script.records.len() as u64) as usize;
     script.records[at].kind = kind;
-    script.tape()
 }
 
 pub fn bad_open(random: &mut Random) -> Vec<u8> {
@@ -85,7 +90,7 @@ pub fn bad_open(random: &mut Random) -> Vec<u8> {
 }
 
 /// Makes the opening meet one of 1 to 7.
-fn spoil_opening(script: &mut Script) {
+pub fn spoil_opening(script: &mut Script) {
     let random = &mut script.random;
     let legs = &mut script.legs;
     let settings = &mut script.plan.settings;
@@ -492,34 +497,36 @@ pub fn negative(random: &mut Random) -> Vec<u8> {
 pub fn noise(random: &mut Random) -> Vec<u8> {
     let plan = Plan::usual(random);
     let times = 60 + random.below(60);
-    session(random, plan, times, |script| {
-        if script.random.once_in(3) {
-            script.anything();
-            return;
-        }
-        let start = Record {
-            kind: script.random.pick(&KINDS.map(|kind| kind.number)),
-            side: script.random.pick(b"BS"),
-            account: script.random.pick(&[1, 2]),
-            wish_or_leg: script.random.below(3) as u8,
-            id: script.random.up_to(9),
-            participant: script.random.up_to(5),
-            units: script.random.up_to(30),
-            price: script.random.price(-300..=300),
-            ask: script.random.price(0..=300),
-            ask_size: script.random.up_to(30),
-            time: script.soon(),
-        };
-        let mut bytes = Vec::with_capacity(Record::BYTES);
-        start.write(&mut bytes);
-        for _ in 0..script.random.below(3) {
-            let at = 1 + script.random.below(Record::BYTES as u64 - 1) as usize;
-            bytes[at] = script.random.number() as u8;
-        }
-        let spoiled = Record::read(&bytes);
-        script.send(spoiled);
-    })
-    .tape()
+    session(random, plan, times, noisy).tape()
+}
+
+/// A message of any kind with a few random bytes, or one that is likely to be accepted.
+pub fn noisy(script: &mut Script) {
+    if script.random.once_in(3) {
+        script.anything();
+        return;
+    }
+    let start = Record {
+        kind: script.random.pick(&KINDS.map(|kind| kind.number)),
+        side: script.random.pick(b"BS"),
+        account: script.random.pick(&[1, 2]),
+        wish_or_leg: script.random.below(3) as u8,
+        id: script.random.up_to(9),
+        participant: script.random.up_to(5),
+        units: script.random.up_to(30),
+        price: script.random.price(-300..=300),
+        ask: script.random.price(0..=300),
+        ask_size: script.random.up_to(30),
+        time: script.soon(),
+    };
+    let mut bytes = Vec::with_capacity(Record::BYTES);
+    start.write(&mut bytes);
+    for _ in 0..script.random.below(3) {
+        let at = 1 + script.random.below(Record::BYTES as u64 - 1) as usize;
+        bytes[at] = script.random.number() as u8;
+    }
+    let spoiled = Record::read(&bytes);
+    script.send(spoiled);
 }
 
 pub fn pro_rata(random: &mut Random) -> Vec<u8> {

@@ -1,10 +1,11 @@
 //! The profiles that stress the tape's layout.
 
 use super::random::Random;
-use super::script::{Plan, Script};
-use super::sessions::session;
+use super::script::{some_legs, Plan, Script};
+use super::sessions::{noisy, session, spoil_kind, spoil_opening};
 use crate::strategy::Cents;
 use crate::tape::{Field, Header, Kind, Record, Tape};
+use std::ops::Range;
 
 /// A short session's tape.
 fn short_tape(random: &mut Random) -> Vec<u8> {
@@ -47,13 +48,18 @@ pub fn overlap(random: &mut Random) -> Vec<u8> {
 
 pub fn truncate(random: &mut Random) -> Vec<u8> {
     let mut tape = short_tape_with_messages(random);
-    let cut = match random.below(3) {
+    cut(&mut tape, random);
+    tape
+}
+
+/// Takes something off the end of a tape.
+fn cut(tape: &mut Vec<u8>, random: &mut Random) {
+    let length = match random.below(3) {
         0 => tape.len() - 1,
         1 => random.below(41) as usize,
         _ => random.below(tape.len() as u64) as usize,
     };
-    tape.truncate(cut);
-    tape
+    tape.truncate(length);
 }
 
 pub fn size(random: &mut Random) -> Vec<u8> {
@@ -79,11 +85,81 @@ pub fn size(random: &mut Random) -> Vec<u8> {
     tape
 }
 
-/// A session's tape with sections moved, gaps between them, and other bytes where none is used.
 pub fn layout(random: &mut Random) -> Vec<u8> {
     let plan = Plan::usual(random);
     let times = random.below(25);
     let script = session(random, plan, times, Script::anything);
+    loose_tape(script, 50, random)
+}
+
+/// Anything that a tape with a written form may be, and now and then a tape that is refused.
+pub fn spelling(random: &mut Random) -> Vec<u8> {
+    let plan = Plan::usual(random);
+    let times = random.below(25);
+    let mut script = session(random, plan, times, noisy);
+    for record in &mut script.records {
+        if random.once_in(3) {
+            spoil_used(record, random);
+        }
+    }
+    match random.below(6) {
+        0 => spoil_opening(&mut script),
+        1 => script.legs.clear(),
+        2 => {
+            let count = random.within(5..=9);
+            script.legs = some_legs(random, count);
+        }
+        _ => {}
+    }
+    if random.once_in(4) {
+        script.records.clear();
+    } else if random.once_in(8) && !script.records.is_empty() {
+        spoil_kind(&mut script);
+    }
+    // Three great gaps may be more than a tape holds.
+    let end_of_gaps = random.pick(&[50, 50, 50, 50, 60_000]);
+    let mut tape = loose_tape(script, end_of_gaps, random);
+    let header = Header::read(&tape);
+    let (no_legs, no_messages) = (header.legs().is_empty(), header.messages().is_empty());
+    if no_legs || random.once_in(32) {
+        let offset = stray_offset(header.messages(), tape.len(), random);
+        Header::set(&mut tape, Header::LEG_OFFSET, offset);
+    }
+    if no_messages || random.once_in(32) {
+        let offset = stray_offset(header.legs(), tape.len(), random);
+        Header::set(&mut tape, Header::MESSAGE_OFFSET, offset);
+    }
+    if random.once_in(16) {
+        cut(&mut tape, random);
+    }
+    tape
+}
+
+/// An offset at which an empty section may stand, and no other: in the header, in the other
+/// section, or at the end and past it.
+fn stray_offset(other: Range<usize>, length: usize, random: &mut Random) -> u16 {
+    let places = match random.below(3) {
+        0 => 0..Header::BYTES,
+        1 if !other.is_empty() => other,
+        _ => length.min(Tape::MOST_BYTES)..Tape::MOST_BYTES + 1,
+    };
+    (places.start + random.below(places.len() as u64) as usize) as u16
+}
+
+/// Puts a random byte into a field that the record's kind uses.
+fn spoil_used(record: &mut Record, random: &mut Random) {
+    let Some(kind) = Kind::of_number(record.kind) else {
+        return;
+    };
+    let field = random.pick(kind.fields);
+    let mut bytes = Vec::with_capacity(Record::BYTES);
+    record.write(&mut bytes);
+    bytes[field.place() + random.below(field.bytes() as u64) as usize] = random.number() as u8;
+    *record = Record::read(&bytes);
+}
+
+/// A session's tape with sections moved, gaps between them, and other bytes where none is used.
+fn loose_tape(script: Script, end_of_gaps: u64, random: &mut Random) -> Vec<u8> {
     let (settings, legs, mut records) = (script.plan.settings, script.legs, script.records);
     records
         .iter_mut()
@@ -96,7 +172,7 @@ pub fn layout(random: &mut Random) -> Vec<u8> {
         if random.once_in(2) {
             0
         } else {
-            random.below(50) as usize
+            random.below(end_of_gaps) as usize
         }
     });
     let legs_first = random.once_in(2);
