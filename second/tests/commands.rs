@@ -36,6 +36,8 @@ fn the_own_case_goes_through_all_commands() {
     let expected = "number order rank contra price units\n4 8 L 0 100 10\n4 8 R 7 100 5\n\
                     refused 5 50\nopen 1 answers 0\n";
     assert_eq!(String::from_utf8(printed).unwrap(), expected);
+    // It is made in its form.
+    assert_eq!(output(&["form"], &tape), tape);
     let dumped = output(&["dump"], &tape);
     assert_eq!(output(&["make"], &dumped), tape);
     let told = String::from_utf8(output(&["explain"], &tape)).unwrap();
@@ -94,6 +96,18 @@ fn live_ends_with_success_whatever_it_reads() {
 }
 
 #[test]
+fn form_gives_the_bytes_of_the_form() {
+    let tape = second::gen::gen("layout", 3).unwrap();
+    let form = second::form::form(&tape).unwrap();
+    assert_ne!(tape, form);
+    assert_eq!(output(&["form"], &tape), form);
+    // It does not open, but it has a form.
+    let mut zeros = [0; 40];
+    (zeros[2], zeros[6]) = (40, 40);
+    assert_eq!(output(&["form"], &[0; 40]), zeros);
+}
+
+#[test]
 fn gen_gives_tapes_and_lists_its_profiles() {
     let tape = output(&["gen", "auction", "3"], b"");
     assert_eq!(tape, second::gen::gen("auction", 3).unwrap());
@@ -104,6 +118,10 @@ fn gen_gives_tapes_and_lists_its_profiles() {
 #[test]
 fn a_refused_tape_is_an_answer_and_not_a_failure() {
     assert_eq!(output(&["tapeprint"], b""), b"refused 0 60\n");
+    assert_eq!(output(&["form"], b""), b"refused 0 60\n");
+    assert_eq!(output(&["form"], &[0; 65_536]), b"refused 0 60\n");
+    let wrong_kind = second::gen::gen("badkind", 1).unwrap();
+    assert_eq!(output(&["form"], &wrong_kind), b"refused 0 61\n");
     let told = output(&["explain"], &[0; 40]);
     assert!(String::from_utf8(told)
         .unwrap()
@@ -129,6 +147,7 @@ fn what_is_wrong_stands_on_standard_error() {
     );
     fails(&["dump", env!("CARGO_MANIFEST_DIR")], b"", "cannot read");
     fails(&["explain", "a", "b"], b"", "one argument too many: b");
+    fails(&["form", "a", "b"], b"", "one argument too many: b");
     fails(
         &["dump"],
         b"short",

@@ -66,6 +66,13 @@ fn this_program_agrees_with_itself_live() {
     agrees(&["--live"], &command, &["all", "1", "12"], tapes);
 }
 
+#[test]
+fn this_program_agrees_with_itself_on_forms() {
+    let command = script("form", r#"exec "$SECOND" form"#);
+    let tapes = 12 * PROFILES.len();
+    agrees(&["--form"], &command, &["all", "1", "12"], tapes);
+}
+
 /// Input that is read late, and output that comes before it: both are more than a pipe holds.
 #[test]
 fn pipes_do_not_block() {
@@ -102,6 +109,53 @@ fn the_first_difference_of_a_live_session_is_told() {
     assert!(error.starts_with("second: endings "), "{error}");
     assert!(error.contains(": \"ended order "), "{error}");
     assert!(error.contains("second: \"ended legs "), "{error}");
+}
+
+/// A form that is the tape itself, one that is short, one that is long, and a wrong number.
+#[test]
+fn the_first_byte_of_a_form_that_differs_is_told() {
+    let wrong = [
+        // The offset of the legs is the first that a form has otherwise.
+        (
+            "same",
+            "exec cat",
+            "layout 1: byte 2 differs\n  COMMAND: 0x",
+        ),
+        ("same", "exec cat", "\n  second: 0x28\n"),
+        (
+            "cut",
+            r#""$SECOND" form | head -c 39"#,
+            "layout 1: byte 39 differs\n  COMMAND: nothing\n  second: 0x00\n",
+        ),
+        (
+            "more-bytes",
+            r#""$SECOND" form; printf '\377'"#,
+            "differs\n  COMMAND: 0xff\n  second: nothing\n",
+        ),
+        (
+            "no-form",
+            "exit 0",
+            "layout 1: byte 0 differs\n  COMMAND: nothing\n  second: 0x",
+        ),
+        (
+            "form-status",
+            r#""$SECOND" form; exit 3"#,
+            "layout 1: COMMAND prints the same, but ends with exit status: 3",
+        ),
+    ];
+    for (name, lines, what) in wrong {
+        fails(
+            &["--form"],
+            &script(name, lines),
+            &["layout", "1", "2"],
+            what,
+        );
+    }
+    // The last digit of 60 and 61.
+    let command = script("wrong-refusal", "echo refused 0 61");
+    let what = "byte 11 differs\n  COMMAND: 0x31\n  second: 0x30\n";
+    agrees(&["--form"], &command, &["badkind", "1", "5"], 5);
+    fails(&["--form"], &command, &["truncate", "1", "5"], what);
 }
 
 /// Lines left out, lines too many, an end of line that is missing, and nothing at all.
@@ -162,6 +216,7 @@ fn wrong_arguments_are_told() {
     for (rest, what) in told {
         fails(&[], &command, rest, what);
         fails(&["--live"], &command, rest, what);
+        fails(&["--form"], &command, rest, what);
     }
     let missing = PathBuf::from("/no/such/command");
     fails(

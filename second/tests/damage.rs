@@ -1,6 +1,7 @@
 //! Damaged and random bytes: nothing panics, and what is refused says so.
 
 use second::explain::explain;
+use second::form::form;
 use second::gen::random::Random;
 use second::gen::{gen, PROFILES};
 use second::print::tapeprint;
@@ -25,6 +26,10 @@ fn read_all(bytes: &[u8]) {
             make(text.as_bytes()).unwrap();
         }
         Err(_) => assert_eq!(printed, "refused 0 60\n"),
+    }
+    match form(bytes) {
+        Ok(written) => assert_eq!(tapeprint(&written), printed),
+        Err(number) => assert_eq!(printed, format!("refused 0 {number}\n")),
     }
     let _ = make(bytes);
 }

@@ -1,17 +1,12 @@
 //! Text and tape: `make` of `dump` keeps a tape's meaning, and a plain tape's bytes.
 
+mod common;
+
+use common::meaning;
 use second::gen::{gen, PROFILES};
 use second::print::tapeprint;
-use second::tape::{Misfit, Tape};
+use second::tape::Misfit;
 use second::text::{dump, make};
-
-/// A tape's meaning: settings, legs, and the used fields of its messages.
-fn meaning(bytes: &[u8]) -> String {
-    let tape = Tape::lay_out(bytes).unwrap();
-    let legs: Vec<_> = tape.legs().collect();
-    let messages: Vec<_> = tape.records().map(|r| (r.kind, r.message())).collect();
-    format!("{:?} {legs:?} {messages:?}", tape.header.settings)
-}
 
 #[test]
 fn make_of_dump_keeps_the_meaning() {

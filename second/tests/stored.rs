@@ -1,6 +1,7 @@
-//! Stored sessions: each tape prints what its .out file holds, byte for byte.
+//! Stored sessions: each tape prints what its .out file holds, and its form what its .form file
+//! holds, byte for byte.
 
-use second::print::tapeprint;
+use second::print::{tapeform, tapeprint};
 use std::fs;
 use std::path::{Path, PathBuf};
 
@@ -21,6 +22,15 @@ fn stored_sessions_print_as_stored() {
     for tape in tapes {
         let expected = fs::read_to_string(tape.with_extension("out")).unwrap();
         let printed = tapeprint(&fs::read(&tape).unwrap());
+        assert_eq!(printed, expected, "{}", tape.display());
+    }
+}
+
+#[test]
+fn stored_tapes_have_their_stored_forms() {
+    for tape in stored_tapes() {
+        let expected = fs::read(tape.with_extension("form")).unwrap();
+        let printed = tapeform(&fs::read(&tape).unwrap());
         assert_eq!(printed, expected, "{}", tape.display());
     }
 }

@@ -7,7 +7,7 @@ use second::engine::{Engine, Outcome};
 use second::execution::{Fill, FillList};
 use second::print::{tapeprint, TITLE};
 use second::strategy::{Leg, Settings};
-use second::tape::{write_tape, Record};
+use second::tape::{write_tape, Record, Tape};
 
 pub fn leg(symbol: &str, side: char, ratio: u8, mpv: u8) -> Leg {
     Leg {
@@ -92,6 +92,14 @@ impl Session {
     pub fn last_outcome(&self, messages: &[Record]) -> Outcome {
         *self.outcomes(messages).last().expect("a message")
     }
+}
+
+/// A tape's meaning: settings, legs, and the used fields of its messages.
+pub fn meaning(bytes: &[u8]) -> String {
+    let tape = Tape::lay_out(bytes).unwrap();
+    let legs: Vec<_> = tape.legs().collect();
+    let messages: Vec<_> = tape.records().map(|r| (r.kind, r.message())).collect();
+    format!("{:?} {legs:?} {messages:?}", tape.header.settings)
 }
 
 pub fn with_title(lines: &[&str]) -> String {
