@@ -9,6 +9,13 @@ pub fn lesser(a: u32, b: u32) -> u32
     if a < b { a } else { b }
 }
 
+// The lesser of two bytes.
+pub fn lesser_byte(a: u8, b: u8) -> u8
+    ensures { λ r. ⌜ r ≡ min a b ⌝ }
+{
+    if a < b { a } else { b }
+}
+
 // The lesser of two long numbers.
 pub fn lesser_long(a: u64, b: u64) -> u64
     ensures { λ r. ⌜ r ≡ min a b ⌝ }

@@ -1,4 +1,4 @@
--- A buffer of 128 bytes, in which bytes are written from an offset on.
+-- A buffer in which bytes are written from an offset on; that of a line has 128 bytes.
 use mathlib.Core.Path.{_≡_}
 use mathlib.Core.List.{List, _++_}
 use Prim.Native.Nat.{ℕ, _+_, _≤_}

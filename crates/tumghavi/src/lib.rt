@@ -1,4 +1,4 @@
-// For hosts in C and Rust: a copy of the engine in two arrays that the host keeps, and a tape's output as bytes.
+// For hosts in C and Rust: a copy of the engine in two arrays that the host keeps, and a tape's output and its form as bytes.
 ghost use mathlib.Core.Path.{_≡_};
 ghost use Prim.Native.Nat.{min};
 ghost use lib.ListN.{length, drop};
@@ -16,8 +16,10 @@ ghost use Rattle.tape.specs.View.{fieldsOf};
 ghost use Rattle.opening.specs.Opens.{IsOpened};
 ghost use Rattle.text.specs.Outputs.{Puts};
 ghost use Rattle.session.specs.Lines.{tapeText};
+ghost use Rattle.form.specs.Writes.{Formed};
 ghost use Rattle.tumghavi.specs.Told.{causeNumber, numbers, numbersOf, recordOf, Told};
 use book::Counts;
+use form::Reply;
 use records::Record;
 use session::Cursor;
 use session::Start;
@@ -210,4 +212,12 @@ pub extern "C" fn tumghavi_print(tape: &[u8], out: &mut [u8]) -> usize
     }
     let at = session::put_title(out, 0);
     put_messages(&mut longs, &mut words, out, at, tape, b)
+}
+
+// The written form of a tape at the start of the output, and how many bytes it has; what stands behind it is as it was. Or the number that turns the tape or the output back, and every byte is as it was.
+#[no_mangle]
+pub extern "C" fn tumghavi_form(tape: &[u8], out: &mut [u8]) -> Reply
+    ensures { λ r. ⌜ Formed tape out r ⌝ }
+{
+    form::write(tape, out)
 }
