@@ -129,6 +129,12 @@ typedef struct tumghavi_open_counts {
     size_t responses;
 } tumghavi_open_counts;
 
+/* What a form is answered with: 0 and the bytes of the form, or the number that refuses it and size 0. */
+typedef struct tumghavi_reply {
+    uint32_t number;
+    size_t size;
+} tumghavi_reply;
+
 /* ---- the library's own functions, over the parts of a copy and the numbers of a fill list */
 
 uint32_t tumghavi_open_in(uint64_t *longs, uint32_t *words, tumghavi_opening opening);
@@ -141,6 +147,14 @@ tumghavi_open_counts tumghavi_counts_in(const uint32_t *words);
  * Returns how many were written. Where that is out_size there may be more: call again with more room. Any bytes are a tape.
  */
 size_t tumghavi_print(const uint8_t *tape, size_t tape_size, uint8_t *out, size_t out_size);
+
+/*
+ * The written form of a tape, the same bytes for all tapes of one meaning: legs at 40, messages straight after, fields that a kind does
+ * not use 0, a wish 1. Number 0, and the form stands at the start of out, in size bytes; what stands behind them is as it was. Else
+ * 60 or 61 for a tape that tapeprint turns back so, and then 70 for an out too short; size is 0, and every byte of out is as it was.
+ * A form is never longer than its tape, so that an out of tape_size bytes never meets 70, and one of 65,535 serves every tape.
+ */
+tumghavi_reply tumghavi_form(const uint8_t *tape, size_t tape_size, uint8_t *out, size_t out_size);
 
 /* ---- a copy */
 

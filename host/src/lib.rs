@@ -87,3 +87,31 @@ pub fn print(tape: &[u8]) -> Vec<u8> {
         out.resize(room, 0);
     }
 }
+
+/// Writes the form of a tape, the same bytes for all tapes of one meaning, to the start of `out`, and says how many they are:
+/// legs at 40, messages straight after, fields that a kind does not use 0, a wish 1. What stands behind them in `out` is as it was.
+///
+/// A tape that tapeprint turns back with 60 or 61 has no form; for any other, an `out` too short is refused with 70. Under each
+/// of the three every byte of `out` is as it was. A form is never longer than its tape: as many bytes are never too short.
+///
+/// ```
+/// use tumghavi::{form, Refusal};
+///
+/// // No legs, four bytes of a gap, and a clock, which has no side.
+/// let mut tape = [0; 80];
+/// tape[..8].copy_from_slice(&[0, 0, 9, 0, 1, 0, 44, 0]);
+/// tape[40..46].copy_from_slice(&[5, 5, 5, 5, 7, b'B']);
+///
+/// let mut out = [9; 80];
+/// assert_eq!(form(&tape, &mut out), Ok(76));
+/// assert_eq!(out[..8], [0, 0, 40, 0, 1, 0, 40, 0]);
+/// assert_eq!(out[40..42], [7, 0]);
+/// assert_eq!(out[76..], [9; 4]);
+/// assert_eq!(form(&tape, &mut out[..75]), Err(Refusal::new(70)));
+/// ```
+pub fn form(tape: &[u8], out: &mut [u8]) -> Result<usize, Refusal> {
+    match library::form(tape, out) {
+        library::Reply { number: 0, size } => Ok(size),
+        library::Reply { number, .. } => Err(Refusal::new(number)),
+    }
+}

@@ -16,6 +16,13 @@ pub struct Counts {
     pub responses: usize,
 }
 
+/// What a form is answered with: 0 and its bytes, or a number and 0.
+#[repr(C)]
+pub struct Reply {
+    pub number: u32,
+    pub size: usize,
+}
+
 extern "C" {
     fn tumghavi_open_in(longs: *mut [u64; LONGS], words: *mut [u32; WORDS], opening: OpeningRow) -> u32;
     fn tumghavi_step_in(
@@ -35,6 +42,7 @@ extern "C" {
     ) -> OutcomeRow;
     fn tumghavi_counts_in(words: *const [u32; WORDS]) -> Counts;
     fn tumghavi_print(tape: *const u8, tape_size: usize, out: *mut u8, out_size: usize) -> usize;
+    fn tumghavi_form(tape: *const u8, tape_size: usize, out: *mut u8, out_size: usize) -> Reply;
 }
 
 /// The numbers of so many records. A slice has no more bytes than fit, so that this does not overflow.
@@ -65,4 +73,9 @@ pub fn counts(words: &[u32; WORDS]) -> Counts {
 pub fn print(tape: &[u8], out: &mut [u8]) -> usize {
     // SAFETY: both slices are valid for their lengths and apart, and the library is proved to stay inside them.
     unsafe { tumghavi_print(tape.as_ptr(), tape.len(), out.as_mut_ptr(), out.len()) }
+}
+
+pub fn form(tape: &[u8], out: &mut [u8]) -> Reply {
+    // SAFETY: as in `print`.
+    unsafe { tumghavi_form(tape.as_ptr(), tape.len(), out.as_mut_ptr(), out.len()) }
 }

@@ -51,7 +51,7 @@ pub enum Cause {
     Legs,
 }
 
-/// The number that an opening or a message is refused with; as words it is docs/NUMBERS.md's sentence.
+/// The number that an opening, a message or a tape is refused with; as words it is docs/NUMBERS.md's sentence.
 #[derive(Clone, Copy, PartialEq, Eq, PartialOrd, Ord, Debug, Hash)]
 pub struct Refusal(u32);
 
@@ -146,6 +146,7 @@ impl Refusal {
             51 => "the order is in the auction queue",
             60 => "a tape has under 40 or over 65,535 bytes, or a section that is not empty overlaps the header or the other section or runs past the end",
             61 => "a message's kind is not 1 to 7, or the bytes handed over as a record are not 36. A tape is turned back as a whole; live and the library refuse the one record",
+            70 => "the buffer that is lent for a tape's form is shorter than the form",
             _ => "no number of this engine",
         }
     }

@@ -1,4 +1,4 @@
-/* Each field of each struct, and each kind of outcome: that the library reads and writes it where the header has it. */
+/* Each field of each struct, and each kind of outcome and reply: that the library reads and writes it where the header has it. */
 #include <stdio.h>
 #include <string.h>
 
@@ -8,6 +8,7 @@ typedef char opening_size[sizeof(tumghavi_opening) == 136 ? 1 : -1];
 typedef char message_size[sizeof(tumghavi_message) == 40 ? 1 : -1];
 typedef char outcome_size[sizeof(tumghavi_outcome) == 32 ? 1 : -1];
 typedef char fill_size[sizeof(tumghavi_fill) == 48 ? 1 : -1];
+typedef char reply_size[sizeof(tumghavi_reply) == 16 ? 1 : -1];
 
 #define EXPECT(holds) expect((holds), #holds, __LINE__)
 
@@ -191,10 +192,56 @@ static void records(void)
     EXPECT(memcmp(&other, &copy, sizeof copy) != 0);
 }
 
+static int is_reply(tumghavi_reply reply, uint32_t number, size_t size)
+{
+    return reply.number == number && reply.size == size;
+}
+
+/* No legs, an order and a clock behind a gap: the form and what is behind it, and each number that leaves every byte. */
+static void forms(void)
+{
+    enum { GAP = 5, SIZE = 40 + 2 * TUMGHAVI_RECORD_SIZE };
+    uint8_t tape[SIZE + GAP], form[SIZE], out[SIZE + 3], before[SIZE + 3];
+    uint8_t *const order = tape + 40 + GAP, *const clock = order + TUMGHAVI_RECORD_SIZE;
+    memset(tape, 99, sizeof tape);
+    memset(tape, 0, 8);
+    tape[2] = 1;
+    tape[4] = 2;
+    tape[6] = 40 + GAP;
+    order[0] = TUMGHAVI_ORDER;
+    clock[0] = TUMGHAVI_CLOCK;
+
+    memcpy(form, tape, 40);
+    form[2] = form[6] = 40;
+    memcpy(form + 40, order, 2 * TUMGHAVI_RECORD_SIZE);
+    form[43] = 1;
+    memset(form + 60, 0, 8);
+    memset(form + 77, 0, 27);
+
+    memset(before, 7, sizeof before);
+    memcpy(out, before, sizeof out);
+    EXPECT(is_reply(tumghavi_form(tape, sizeof tape, out, SIZE - 1), 70, 0));
+    EXPECT(is_reply(tumghavi_form(tape, sizeof tape, out, 0), 70, 0));
+    EXPECT(is_reply(tumghavi_form(tape, sizeof tape - 1, out, sizeof out), 60, 0));
+    EXPECT(is_reply(tumghavi_form(tape, sizeof tape - 1, out, 0), 60, 0));
+    clock[0] = 8;
+    EXPECT(is_reply(tumghavi_form(tape, sizeof tape, out, sizeof out), 61, 0));
+    EXPECT(is_reply(tumghavi_form(tape, sizeof tape, out, 0), 61, 0));
+    clock[0] = TUMGHAVI_CLOCK;
+    EXPECT(memcmp(out, before, sizeof out) == 0);
+
+    EXPECT(is_reply(tumghavi_form(tape, sizeof tape, out, sizeof out), 0, SIZE));
+    EXPECT(memcmp(out, form, SIZE) == 0 && memcmp(out + SIZE, before + SIZE, sizeof out - SIZE) == 0);
+    memcpy(out, before, sizeof out);
+    EXPECT(is_reply(tumghavi_form(tape, sizeof tape, out, SIZE), 0, SIZE));
+    EXPECT(memcmp(out, form, SIZE) == 0 && memcmp(out + SIZE, before + SIZE, sizeof out - SIZE) == 0);
+}
+
 int main(void)
 {
     openings();
     outcomes();
     records();
+    forms();
     return failures != 0;
 }

@@ -217,7 +217,7 @@ fn words_of_the_page() {
         Some((cells.next()?.trim().parse().ok()?, cells.next()?))
     });
     let rows: Vec<(u32, &str)> = rows.collect();
-    assert_eq!(rows.len(), 26);
+    assert_eq!(rows.len(), 27);
     for (number, words) in rows {
         assert_eq!(Refusal::new(number).to_string(), format!("{number}: {words}"));
     }
