@@ -1,8 +1,11 @@
-//! Tapes made to be measured: with so many entries open, and with more or fewer fills.
+//! Tapes made to be measured: with so many entries open, with more or fewer fills, and in other bytes than those of their form.
 
+use second::gen::gen;
+use second::gen::random::Random;
 use second::strategy::{Cents, Leg, Settings};
-use second::tape::{write_tape, Header, Record, Tape};
+use second::tape::{write_tape, Field, Header, Kind, Record, Tape};
 use std::fmt;
+use std::ops::Range;
 
 /// Two tapes, a cell of a table, and what the second tape has more than the first.
 pub struct Case {
@@ -248,4 +251,53 @@ fn auction(k: u64, price: impl Fn(u32) -> Cents) -> Vec<Record> {
     records.extend((0..32).map(|n| at(begins, response(n, price(n)))));
     records.extend([at(ends, clock()), at(ends, cancel(1))]);
     records
+}
+
+// Tapes of one meaning in other bytes.
+
+/// Rows of tapes whose forms are written: the longest that there can be, with nothing in the fields that are not used and with
+/// noise there, and short ones.
+pub fn spellings(seeds: Range<u64>) -> Vec<(&'static str, Vec<Vec<u8>>)> {
+    let tape = |profile: &str, seed: u64| gen(profile, seed).expect("a profile of the list");
+    let long = |seed: u64| with_gap(&tape("long", seed));
+    let noisy = |seed: u64| with_noise(long(seed), seed);
+    let spelling = |seed: u64| tape("spelling", seed);
+    vec![
+        ("long, a gap before the messages", seeds.clone().map(long).collect()),
+        ("the same, noise in unused fields", seeds.clone().map(noisy).collect()),
+        ("spelling", seeds.map(spelling).collect()),
+        ("own case", vec![OWN_CASE.to_vec()]),
+    ]
+}
+
+/// Document 01's own case.
+const OWN_CASE: &[u8] = include_bytes!("../../crates/tapeprint/stdin");
+
+/// A tape whose messages come last, moved on until they end with the last byte that a tape can have.
+fn with_gap(tape: &[u8]) -> Vec<u8> {
+    let (front, messages) = tape.split_at(Header::read(tape).messages().start);
+    let mut moved = front.to_vec();
+    moved.resize(Tape::MOST_BYTES - messages.len(), 7);
+    let start = moved.len() as u16;
+    Header::set(&mut moved, Header::MESSAGE_OFFSET, start);
+    moved.extend(messages);
+    moved
+}
+
+/// Random bytes in the fields that a message's kind does not use, and as a wish that is there.
+fn with_noise(mut tape: Vec<u8>, seed: u64) -> Vec<u8> {
+    let mut random = Random::new(seed);
+    let messages = Header::read(&tape).messages();
+    for record in tape[messages].chunks_exact_mut(Record::BYTES) {
+        let fields = Kind::of_number(record[0]).map_or(&[][..], |kind| kind.fields);
+        let places = |field: &Field| field.place()..field.place() + field.bytes();
+        for (at, byte) in record.iter_mut().enumerate().skip(1) {
+            match fields.iter().find(|field| places(field).contains(&at)) {
+                None => *byte = random.below(256) as u8,
+                Some(Field::Wish) if *byte != 0 => *byte = random.up_to(255) as u8,
+                Some(_) => {}
+            }
+        }
+    }
+    tape
 }

@@ -8,6 +8,7 @@ mod pipes;
 use made::Case;
 use second::engine::{Engine, Outcome};
 use second::execution::{Fill, FillList};
+use second::form::{form, write_form};
 use second::gen::PROFILES;
 use second::message::Message;
 use second::print::{run_tape, tapeprint};
@@ -21,7 +22,7 @@ use std::time::Instant;
 const USAGE: &str = "\
 usage: bench                       the tables of docs/BENCHMARK.md
        bench --rounds N            the same, in so many rounds
-       bench --check               only whether both print the same
+       bench --check               only whether both print the same, and write the same forms
        bench --run PROFILE TIMES   the library alone on a profile's tapes, for a profiler";
 const ROUNDS: usize = 60;
 /// Runs of one engine before the other's turn, so that what the other left in the caches matters less.
@@ -58,16 +59,18 @@ impl Times {
     }
 }
 
-/// How a tape is run: from its bytes to its lines; or without text, message by message, or record by record from their bytes.
+/// How a tape is run: from its bytes to its lines; without text, message by message, or record by record from their bytes; or
+/// from its bytes to those of its form.
 #[derive(Clone, Copy)]
 enum Way {
     Print,
     Step,
     Record,
+    Form,
 }
 
 impl Way {
-    const ALL: [Way; 3] = [Way::Print, Way::Step, Way::Record];
+    const ALL: [Way; 4] = [Way::Print, Way::Step, Way::Record, Way::Form];
 }
 
 /// A tape, what the second program says of it, and each engine's best time.
@@ -76,6 +79,8 @@ struct Track {
     expected: String,
     /// Where the library prints to.
     out: Vec<u8>,
+    /// Where both write the form to.
+    lent: Vec<u8>,
     messages: usize,
     fills: usize,
     refused: usize,
@@ -168,21 +173,22 @@ impl Track {
             refused += usize::from(matches!(outcome, Outcome::Refused { .. }));
         });
         let pending = end.is_ok_and(|engine| engine.auction().is_some());
-        let out = vec![0; expected.len() + 1];
+        let (out, lent) = (vec![0; expected.len() + 1], vec![0; tape.len()]);
         let (rounds, script) = (Way::ALL.map(|_| Vec::new()), Script::of(&tape));
-        Track { tape, expected, out, messages, fills, refused, pending, rounds, script }
+        Track { tape, expected, out, lent, messages, fills, refused, pending, rounds, script }
     }
 
     fn rounds(&self, way: Way) -> &[Times] {
         &self.rounds[way as usize]
     }
 
-    /// The bytes that the library writes, or how many fills it gives.
+    /// The bytes that the library writes, none of a tape that has no form, or how many fills it gives.
     fn run_proved(&mut self, way: Way) -> usize {
         match way {
             Way::Print => tumghavi::print_into(black_box(&self.tape), &mut self.out),
             Way::Step => self.script.proved.step(),
             Way::Record => self.script.proved.record(),
+            Way::Form => tumghavi::form(black_box(&self.tape), &mut self.lent).unwrap_or(0),
         }
     }
 
@@ -192,13 +198,20 @@ impl Track {
             Way::Print => tapeprint(black_box(&self.tape)).len(),
             Way::Step => self.script.step_plain(),
             Way::Record => self.script.record_plain(),
+            Way::Form => write_form(black_box(&self.tape), &mut self.lent).unwrap_or(0),
         }
     }
 
     fn agrees(&mut self) -> bool {
         let written = self.run_proved(Way::Print);
         let same = &self.out[..written] == self.expected.as_bytes();
-        same && Way::ALL.iter().all(|&way| self.run_proved(way) == self.run_plain(way))
+        same && self.has_its_form() && Way::ALL.iter().all(|&way| self.run_proved(way) == self.run_plain(way))
+    }
+
+    /// The library's form is the second program's, and the number is, where there is none.
+    fn has_its_form(&mut self) -> bool {
+        let written = tumghavi::form(&self.tape, &mut self.lent).map_err(tumghavi::Refusal::number);
+        written.map(|size| self.lent[..size].to_vec()) == form(&self.tape).map_err(u32::from)
     }
 }
 
@@ -234,7 +247,7 @@ fn deeper(frames: usize, run: &mut dyn FnMut()) {
     black_box(&frame);
 }
 
-/// The tapes of a profile.
+/// The tapes of a profile, or of a row of the forms.
 struct Group {
     name: &'static str,
     tracks: Vec<Track>,
@@ -288,6 +301,7 @@ impl Pair {
 struct Bench {
     groups: Vec<Group>,
     pairs: Vec<Pair>,
+    forms: Vec<Group>,
 }
 
 impl Bench {
@@ -295,22 +309,33 @@ impl Bench {
     fn checked() -> Result<Bench, String> {
         let tracks = |profile: &second::gen::Profile| SEEDS.map(|seed| Track::new(profile.tape(seed))).collect();
         let pair = |mut case: Case| Pair { tracks: std::mem::take(&mut case.tapes).map(Track::new), case };
+        let row = |(name, tapes): (_, Vec<_>)| Group { name, tracks: tapes.into_iter().map(Track::new).collect() };
         let mut bench = Bench {
             groups: PROFILES.iter().map(|profile| Group { name: profile.name, tracks: tracks(profile) }).collect(),
             pairs: made::cases().into_iter().map(pair).collect(),
+            forms: made::spellings(SEEDS).into_iter().map(row).collect(),
         };
-        for Group { name, tracks } in &mut bench.groups {
+        for Group { name, tracks } in bench.groups.iter_mut().chain(&mut bench.forms) {
             claim(tracks.iter_mut().all(Track::agrees), || format!("{name}: the outputs differ"))?;
         }
         for pair in &mut bench.pairs {
             claim(pair.tracks.iter_mut().all(Track::agrees), || format!("{}: the outputs differ", pair.case))?;
             claim(pair.is_as_said(), || format!("{}: not as said", pair.case))?;
         }
+        claim(bench.forms_are_as_said(), || "the form of a tape: not as said".into())?;
         Ok(bench)
     }
 
+    /// The tapes of the first two rows have the most bytes that there can be, and one form in the one row as in the other.
+    fn forms_are_as_said(&self) -> bool {
+        let is_longest = |track: &Track| track.tape.len() == Tape::MOST_BYTES && form(&track.tape).is_ok();
+        let respelled = |(a, b): (&Track, &Track)| a.tape != b.tape && form(&a.tape) == form(&b.tape);
+        let [plain, noisy] = [0, 1].map(|row| &self.forms[row].tracks);
+        plain.iter().chain(noisy).all(is_longest) && plain.iter().zip(noisy).all(respelled)
+    }
+
     fn tracks(&mut self) -> impl Iterator<Item = &mut [Track]> {
-        let groups = self.groups.iter_mut().map(|group| &mut group.tracks[..]);
+        let groups = self.groups.iter_mut().chain(&mut self.forms).map(|group| &mut group.tracks[..]);
         groups.chain(self.pairs.iter_mut().map(|pair| &mut pair.tracks[..]))
     }
 
@@ -330,6 +355,7 @@ impl Bench {
         println!("\n## A record at a time, from its bytes\n");
         print_profiles(&others, Way::Record);
         self.pairs.chunk_by(|a, b| a.case.table == b.case.table).for_each(print_pairs);
+        print_forms(&self.forms);
     }
 }
 
@@ -368,6 +394,22 @@ fn print_pairs(pairs: &[Pair]) {
             None => String::new(),
         };
         println!("| {} | {} |", row[0].case.row, columns.iter().map(cell).collect::<Vec<_>>().join(" | "));
+    }
+}
+
+/// The table of the forms, with a row for each group of tapes.
+fn print_forms(groups: &[Group]) {
+    println!("\n## The form of a tape\n");
+    println!("| | Tapes | Bytes a tape | Bytes written | Proved, ns a tape | Plain, ns a tape | Ratio |");
+    println!("|---|--:|--:|--:|--:|--:|--:|");
+    for Group { name, tracks } in groups {
+        let mean = |bytes: fn(&Track) -> usize| tracks.iter().map(bytes).sum::<usize>() / tracks.len();
+        let bytes = mean(|track| track.tape.len());
+        let written = mean(|track| form(&track.tape).map_or(0, |form| form.len()));
+        let times = Times::sum(tracks.iter(), Way::Form).per(tracks.len());
+        let Times { proved, plain } = times;
+        let ratio = times.ratio();
+        println!("| {name} | {} | {bytes} | {written} | {proved:.0} | {plain:.0} | {ratio:.2} |", tracks.len());
     }
 }
 
