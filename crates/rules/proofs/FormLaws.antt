@@ -234,5 +234,5 @@ module _ (m : Meaning) (h : FitMeaning m) where
       = ap₂ meantFrom (sym (h .messageCount)) form-behind ∙ messages-back (m .messages) (h .messages) in
       ap (meaningBy (formFrom m)) form-header ∙ ap₂ (λ (ls : List Leg) (fs : List Fields). meaningWith m ls fs) form-legs e
 
-  pub form-plain : rawFrom (m .messageCount) (drop (40 + m .legCount * 24) (formFrom m)) ≡ m .messages
-  form-plain = ap₂ rawFrom (sym (h .messageCount)) form-behind ∙ raw-back (m .messages) (h .messages)
+  pub form-raw : rawFrom (m .messageCount) (drop (40 + m .legCount * 24) (formFrom m)) ≡ m .messages
+  form-raw = ap₂ rawFrom (sym (h .messageCount)) form-behind ∙ raw-back (m .messages) (h .messages)

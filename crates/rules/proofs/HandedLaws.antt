@@ -5,18 +5,18 @@ use mathlib.Core.List.{List, _∷_, _++_, map}
 use Prim.Native.Nat.{ℕ, zero, suc, _+_, _*_, _≤_}
 use native.Mathlib.Decide.{ℕ-discrete}
 use native.Mathlib.Omega.{arith}
-use borrow.Author.Tests.{ne-eqb, lt-ltb, le-ltb}
+use borrow.Author.Tests.{eq-eqb, ne-eqb, lt-ltb, le-ltb}
 use lib.Dec.{eqb, ltb}
 use lib.IntN.{pos}
 use lib.ListN.{length, getD, take, drop, length-append, length-drop}
 use lib.Seq.{take-at, drop-at}
-use Rattle.rules.specs.Basics.{pick}
+use Rattle.rules.specs.Basics.{pick, All}
 use Rattle.rules.specs.Messages.{Terms, Body, local, national, order, response, modify, cancel, clock, Message}
 use Rattle.rules.specs.Tape.{Header, headerOf, Fields, fieldsOf, usesOf, usedFields, bodyOf, messageOf, messagesFrom, isKind, knownKinds, legsFrom, Tape, refusedTape, reads, tapeRefusal, tapeOf, strategyOf, messagesOf, isDamaged, hasUnknownKind}
-use Rattle.rules.specs.Spelling.{yesOrNo, fourth, meant, meantFrom, Meaning, meaningOf, formFrom, formOf, Accepted, OneForm, OneMeaning, OneSpelling, formRefusal, replyTo, bufferAfter, GoodReply, FormsAreWritten}
+use Rattle.rules.specs.Spelling.{yesOrNo, fourth, meant, meantFrom, Meaning, meaningOf, formFrom, formOf, Accepted, rawFrom, Plain, OneForm, OneMeaning, OneSpelling, formRefusal, replyTo, bufferAfter, GoodReply, FormsAreWritten}
 use Rattle.rules.proofs.TestLaws.{and-left, and-right, between-high}
 use Rattle.rules.proofs.SectionLaws.{sound}
-use Rattle.rules.proofs.FormLaws.{FitMeaning, meaning-fit, form-bytes, form-length, form-header, form-accepted, form-meaning, form-plain, legs-count}
+use Rattle.rules.proofs.FormLaws.{FitMeaning, meaning-fit, form-bytes, form-length, form-header, form-accepted, form-meaning, form-raw, legs-count}
 
 -- ---- a message of its fields, and the fields of a message
 
@@ -143,6 +143,34 @@ meaning-taken t d h =
 
 -- ---- the claim
 
+-- fields as they are meant: those that are not used are 0, and a wish is 0 or 1
+plain-meant : (f : Fields) → Plain (meant f)
+plain-meant f =
+    record {
+      side = λ e. rw e;
+      account = λ e. rw e;
+      wishOrLeg = λ e. rw e (fourth-none (eqb (f .kind) 3));
+      id = λ e. rw e;
+      participant = λ e. rw e;
+      units = λ e. rw e;
+      price = λ e. rw e;
+      ask = λ e. rw e;
+      askSize = λ e. rw e;
+      wish = λ e. rw (eq-eqb (f .kind) 3 e) (yes-most (ltb 0 (pick (usesOf (f .kind) .wishOrLeg) (f .wishOrLeg) 0)));
+    }
+  where
+    fourth-none : (b : Bool) → pick b (yesOrNo 0) 0 ≡ 0
+    fourth-none true = refl
+    fourth-none false = refl
+
+    yes-most : (b : Bool) → pick b 1 0 ≤ 1
+    yes-most true = omega arith
+    yes-most false = omega arith
+
+all-plain : (n : ℕ) (p : List ℕ) → All Plain (meantFrom n p)
+all-plain zero p = tt
+all-plain (suc n) p = (plain-meant (fieldsOf p), all-plain n (drop 36 p))
+
 one-form : (t : List ℕ) → Accepted t → OneForm t
 unfolding meaningOf
 one-form t a =
@@ -151,6 +179,7 @@ one-form t a =
     let z : 24 * headerOf t .legCount ≡ headerOf t .legCount * 24 = omega arith in
     let r : 40 + headerOf t .legCount * 24 + headerOf t .messageCount * 36 ≤ 65_535 = h .room in
     let n : length (formFrom m) ≡ 40 + headerOf t .legCount * 24 + headerOf t .messageCount * 36 = form-length m h in
+    let raw : rawFrom (headerOf t .messageCount) (drop (40 + 24 * headerOf t .legCount) (formFrom m)) ≡ m .messages = rw z (form-raw m h) in
     record {
       accepted = record { bytes = form-bytes m h; passed = form-accepted m h };
       same = form-meaning m h;
@@ -158,7 +187,8 @@ one-form t a =
       legsAt = ap (λ (e : Header). e .legOffset) (form-header m h);
       messagesAt = ap (λ (e : Header). e .messageOffset) (form-header m h) ∙ omega arith;
       size = omega arith;
-      plain = rw z (form-plain m h);
+      raw = raw;
+      plain = subst (All Plain) (sym raw) (all-plain (headerOf t .messageCount) (drop (headerOf t .messageOffset) t));
     }
 
 one-meaning : (t u : List ℕ) → Accepted t → Accepted u → OneMeaning t u

@@ -1,12 +1,13 @@
 -- Document 02, M-100, "Tapes in one spelling": the meaning of a tape, its written form, and what a writer gives for a tape and a lent buffer; number 70.
 use mathlib.Core.Path.{_≡_}
+use mathlib.Core.Bool.{false}
 use mathlib.Core.Logic.{_↔_}
 use mathlib.Core.List.{List, [], _∷_, _++_}
 use Prim.Native.Nat.{ℕ, zero, suc, _+_, _-_, _*_, _/_, _%_, _≤_, _<_}
 use lib.Dec.{eqb, ltb}
 use lib.IntN.{ℤ, pos, negsuc}
 use lib.ListN.{length, take, drop}
-use Rattle.rules.specs.Basics.{pick, Rule, rule, firstOf}
+use Rattle.rules.specs.Basics.{pick, All, Rule, rule, firstOf}
 use Rattle.rules.specs.Strategy.{Leg, Settings}
 use Rattle.rules.specs.Tape.{headerBytes, legBytes, messageBytes, headerOf, legsFrom, Fields, fieldsOf, Uses, usesOf, usedFields, tapeRow, tapeRefusal, tapeOf}
 
@@ -167,6 +168,19 @@ abbrev pub rawFrom : ℕ → List ℕ → List Fields
 rawFrom zero p = []
 rawFrom (suc n) p = fieldsOf p ∷ rawFrom n (drop 36 p)
 
+-- "unused fields zero, any auction wish written as 1": of a record's fields as they stand
+pub record Plain (f : Fields) : Type 0 where
+  pub side : usesOf (f .kind) .side ≡ false → f .side ≡ 0
+  pub account : usesOf (f .kind) .account ≡ false → f .account ≡ 0
+  pub wishOrLeg : usesOf (f .kind) .wishOrLeg ≡ false → f .wishOrLeg ≡ 0
+  pub id : usesOf (f .kind) .id ≡ false → f .id ≡ 0
+  pub participant : usesOf (f .kind) .participant ≡ false → f .participant ≡ 0
+  pub units : usesOf (f .kind) .units ≡ false → f .units ≡ 0
+  pub price : usesOf (f .kind) .price ≡ false → f .price ≡ pos 0
+  pub ask : usesOf (f .kind) .ask ≡ false → f .ask ≡ pos 0
+  pub askSize : usesOf (f .kind) .askSize ≡ false → f .askSize ≡ 0
+  pub wish : f .kind ≡ 3 → f .wishOrLeg ≤ 1
+
 -- the form of an accepted tape
 pub record OneForm (t : List ℕ) : Type 0 where
   -- is a tape that the reader accepts
@@ -180,8 +194,10 @@ pub record OneForm (t : List ℕ) : Type 0 where
   pub messagesAt : headerOf (formOf t) .messageOffset ≡ 40 + 24 * headerOf t .legCount
   -- has no byte behind them
   pub size : length (formOf t) ≡ 40 + 24 * headerOf t .legCount + 36 * headerOf t .messageCount
-  -- "unused fields zero, any auction wish written as 1": has every field as it is meant
-  pub plain : rawFrom (headerOf t .messageCount) (drop (40 + 24 * headerOf t .legCount) (formOf t)) ≡ meaningOf t .messages
+  -- has every field as it is meant
+  pub raw : rawFrom (headerOf t .messageCount) (drop (40 + 24 * headerOf t .legCount) (formOf t)) ≡ meaningOf t .messages
+  -- and no other
+  pub plain : All Plain (rawFrom (headerOf t .messageCount) (drop (40 + 24 * headerOf t .legCount) (formOf t)))
 
 -- of two accepted tapes
 pub record OneMeaning (t u : List ℕ) : Type 0 where
