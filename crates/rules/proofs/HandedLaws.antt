@@ -187,6 +187,7 @@ one-form t a =
       legsAt = ap (λ (e : Header). e .legOffset) (form-header m h);
       messagesAt = ap (λ (e : Header). e .messageOffset) (form-header m h) ∙ omega arith;
       size = omega arith;
+      most = omega (arith, sound t (a .passed) .room);
       raw = raw;
       plain = subst (All Plain) (sym raw) (all-plain (headerOf t .messageCount) (drop (headerOf t .messageOffset) t));
     }

@@ -194,6 +194,8 @@ pub record OneForm (t : List ℕ) : Type 0 where
   pub messagesAt : headerOf (formOf t) .messageOffset ≡ 40 + 24 * headerOf t .legCount
   -- has no byte behind them
   pub size : length (formOf t) ≡ 40 + 24 * headerOf t .legCount + 36 * headerOf t .messageCount
+  -- is no longer than the tape
+  pub most : length (formOf t) ≤ length t
   -- has every field as it is meant
   pub raw : rawFrom (headerOf t .messageCount) (drop (40 + 24 * headerOf t .legCount) (formOf t)) ≡ meaningOf t .messages
   -- and no other
