@@ -2,20 +2,26 @@
 use mathlib.Core.Path.{_≡_, refl, ap, ap₂, sym, _∙_}
 use mathlib.Core.Bool.{Bool, true, false}
 use mathlib.Core.List.{List, [], _∷_, _++_, map}
-use Prim.Native.Nat.{ℕ}
+use Prim.Native.Nat.{ℕ, _+_}
 use native.Mathlib.Omega.{arith}
 use lib.Dec.{eqb}
 use lib.ListN.{length, take, drop}
 use Rattle.rules.specs.Basics.{pick}
 use Rattle.rules.specs.Turn as U
+use Rattle.rules.specs.Outcome as O
 use Rattle.rules.specs.Messages.{Body, local, national, order, response, modify, cancel, clock, Message}
 use Rattle.rules.specs.State.{State, taken}
-use Rattle.rules.specs.Refusals.{refusal}
-use Rattle.rules.specs.Step.{Act, goesOn, begins, joining, ends, takeIn, follow, answered, plain, recordsOf, acted, accepted, turnedBack, step}
+use Rattle.rules.specs.Refusals.{leastRoom, refusal}
+use Rattle.rules.specs.Step.{Act, goesOn, begins, joining, ends, takeIn, follow, answered, plain, recordsOf, Answer, acted, accepted, turnedBack, step}
 use Rattle.rules.specs.Strategy as S
-use Rattle.rules.specs.Run.{started, opening, answerTo, answers}
-use Rattle.rules.specs.Demand.{Demand3OfRules}
+use Rattle.rules.specs.Run.{Opened, started, startOf, opening, Sent, answerTo, answers}
+use Rattle.rules.specs.Tape.{Tape, reads, tapeOf}
+use Rattle.rules.specs.Print.{Line, titleLine, fillLines, refusedLines, closing, linesFrom, openedLines, readLines, linesOf}
+use Rattle.rules.specs.Demand.{Good, Demand3OfRules}
+use Rattle.rules.specs.Arrival.{noArrivals, AllStand, RecordsByArrivalOfRules, RecordsAreFixed}
 use Rattle.rules.proofs.RunLaws.{opened, demand-3-of-rules}
+use Rattle.rules.proofs.ArrivalLaws.{records-by-arrival-of-rules, records-are-fixed}
+use Rattle.types.specs.declared.Opening.{Opening}
 use Rattle.types.specs.declared.Fill.{Fill}
 use Rattle.types.specs.View.{openingOf, messageOf, rankOf, contraOf, fillOf}
 use Rattle.state.specs.Layout.{isSized}
@@ -23,7 +29,9 @@ use Rattle.state.specs.View.{stateOf}
 use Rattle.opening.specs.Opens.{openedBy, Opens}
 use Rattle.engine.specs.Steps.{recordsIn, placesIn}
 use Rattle.fills.specs.Fills.{storedRank, storedContra, storedFill, written}
-use Rattle.demand.specs.Engine.{Stepped, Applied, Taken, byStep, byApply, longsAfter, wordsAfter, sentOf, fillCount, toldBy, Run, over, then, sents, told, Demand3}
+use Rattle.text.specs.Text.{linesText}
+use Rattle.session.specs.Lines.{sent, tapeText}
+use Rattle.demand.specs.Engine.{Stepped, Applied, Taken, byStep, byApply, longsAfter, wordsAfter, sentOf, fillCount, outcomeBy, toldBy, Run, over, then, sents, told, saidBy, Copy, Demand3, RecordsByArrival, linesBy, textBy, Alike, ListIsFixed}
 
 -- ---- the fill count of an outcome is the number of its records
 
@@ -95,6 +103,10 @@ module _ (longs words : List ℕ) where
   told-here (byStep a) = told-stepped a
   told-here (byApply a) = told-applied a
 
+  said-here : (a : Taken longs words) → outcomeBy a ≡ answerTo (stateOf longs words) (sentOf a) .outcome
+  said-here (byStep a) = a .kept .outcome
+  said-here (byApply a) = a .kept .outcome
+
   state-after : (a : Taken longs words) → stateOf (longsAfter a) (wordsAfter a) ≡ answerTo (stateOf longs words) (sentOf a) .state
   state-after (byStep a) = a .kept .state
   state-after (byApply a) = a .kept .state
@@ -108,6 +120,33 @@ told-is (then longs words a run) =
     ap₂ (λ (f : List U.Fill) (fs : List (List U.Fill)). f ∷ fs) (told-here longs words a)
     (told-is run ∙ ap (λ (s : State). map (λ y. y .fills) (answers s (sents run))) (state-after longs words a))
 
+said-is : {longs words : List ℕ} (run : Run longs words) → saidBy run ≡ map (λ a. a .outcome) (answers (stateOf longs words) (sents run))
+unfolding answers
+said-is (over longs words) = refl
+said-is (then longs words a run) =
+    ap₂ (λ (f : O.Outcome) (fs : List O.Outcome). f ∷ fs) (said-here longs words a)
+    (said-is run ∙ ap (λ (s : State). map (λ y. y .outcome) (answers s (sents run))) (state-after longs words a))
+
+-- the lines of the rules' answers
+abbrev linesFor : ℕ → State → List Sent → List Line
+linesFor k s [] = closing s ∷ []
+linesFor k s (m ∷ ms) = fillLines (answerTo s m .fills) ++ (refusedLines k (answerTo s m .outcome) ++ linesFor (k + 1) (answerTo s m .state) ms)
+
+lines-are : {longs words : List ℕ} (k : ℕ) (run : Run longs words) → linesBy k run ≡ linesFor k (stateOf longs words) (sents run)
+lines-are k (over longs words) = refl
+lines-are k (then longs words a run) =
+    ap₂ (λ (x y : List Line). x ++ y) (ap fillLines (told-here longs words a))
+    (ap₂ (λ (x y : List Line). x ++ y) (ap (refusedLines k) (said-here longs words a))
+    (lines-are (k + 1) run ∙ ap (λ (s : State). linesFor (k + 1) s (sents run)) (state-after longs words a)))
+
+-- for messages with 2,000 places each they are those of a tape
+lines-from : (k : ℕ) (s : State) (ms : List Message) → linesFor k s (sent ms) ≡ linesFrom k s ms
+unfolding linesFrom
+lines-from k s [] = refl
+lines-from k s (m ∷ ms) =
+    let a : Answer = answerTo s (record { message = m; room = leastRoom }) in
+    ap (λ (l : List Line). fillLines (a .fills) ++ (refusedLines k (a .outcome) ++ l)) (lines-from (k + 1) (a .state) ms)
+
 -- the state of an accepted opening is the rules'
 opening-is : (longs words : List ℕ) (o : S.Strategy) (r : ℕ) (longs′ words′ : List ℕ) → Opens longs words o r longs′ words′ → r ≡ 0 → opening o ≡ started (stateOf longs′ words′)
 opening-is longs words o r longs′ words′ h e = go (isSized longs words) refl
@@ -116,9 +155,62 @@ opening-is longs words o r longs′ words′ h e = go (isSized longs words) refl
     go true q = sym (h .answer q) ∙ ap (λ (n : ℕ). openedBy n (stateOf longs′ words′)) e
     go false q = let z : r ≡ 10 = h .number ∙ ap (λ (b : Bool). pick b (S.openingRefusal o) 10) q in absurd (omega arith)
 
+-- ---- the claims
+
+module _ (o : Opening) (c : Copy o) where
+  opened-is : opening (openingOf o) ≡ started (stateOf (c .longs′) (c .words′))
+  opened-is = opening-is (c .longs) (c .words) (openingOf o) (c .number) (c .longs′) (c .words′) (c .opened) (c .accepted)
+
+  start-is : startOf (openingOf o) ≡ stateOf (c .longs′) (c .words′)
+  start-is = opened (openingOf o) (stateOf (c .longs′) (c .words′)) opened-is .1
+
+  started-is : opening (openingOf o) ≡ started (startOf (openingOf o))
+  started-is = opened-is ∙ ap started (sym start-is)
+
+  -- what the rules' answers are after every opening, the engine's are
+  of-rules : (P : State → List Sent → List (List U.Fill) → Type 0)
+      → ((s : State) → opening (openingOf o) ≡ started s → (ms : List Sent) → P s ms (map (λ a. a .fills) (answers s ms)))
+      → P (startOf (openingOf o)) (sents (c .run)) (told (c .run))
+  of-rules P f = rw (start-is, told-is (c .run)) (f (stateOf (c .longs′) (c .words′)) opened-is (sents (c .run)))
+
+  -- the list, the outcomes and the lines are the rules'
+  told-from : told (c .run) ≡ map (λ a. a .fills) (answers (startOf (openingOf o)) (sents (c .run)))
+  told-from = told-is (c .run) ∙ ap (λ (s : State). map (λ a. a .fills) (answers s (sents (c .run)))) (sym start-is)
+
+  said-from : saidBy (c .run) ≡ map (λ a. a .outcome) (answers (startOf (openingOf o)) (sents (c .run)))
+  said-from = said-is (c .run) ∙ ap (λ (s : State). map (λ a. a .outcome) (answers s (sents (c .run)))) (sym start-is)
+
+  text-from : textBy (c .run) ≡ linesText (titleLine ∷ linesFor 1 (startOf (openingOf o)) (sents (c .run)))
+  text-from = ap (λ (l : List Line). linesText (titleLine ∷ l)) (lines-are 1 (c .run) ∙ ap (λ (s : State). linesFor 1 s (sents (c .run))) (sym start-is))
+
 pub demand-3 : Demand3
 unfolding Demand3 Demand3OfRules
-demand-3 o longs words longs′ words′ r h e run =
-    let s : State = stateOf longs′ words′ in
-    let q : opening (openingOf o) ≡ started s = opening-is longs words (openingOf o) r longs′ words′ h e in
-    rw (opened (openingOf o) s q .1, told-is run) (demand-3-of-rules (openingOf o) s q (sents run))
+demand-3 o c = of-rules o c Good (demand-3-of-rules (openingOf o))
+
+pub records-by-arrival : RecordsByArrival
+unfolding RecordsByArrival RecordsByArrivalOfRules
+records-by-arrival o c = of-rules o c (AllStand noArrivals) (records-by-arrival-of-rules (openingOf o))
+
+only-told : (o : Opening) (c : Copy o) (rss : List (List U.Fill)) → Good (startOf (openingOf o)) (sents (c .run)) rss → AllStand noArrivals (startOf (openingOf o)) (sents (c .run)) rss → rss ≡ told (c .run)
+unfolding RecordsAreFixed
+only-told o c rss g b = records-are-fixed (openingOf o) (startOf (openingOf o)) (started-is o c) (sents (c .run)) rss g b ∙ sym (told-from o c)
+
+alike : (o : Opening) (c d : Copy o) → sents (c .run) ≡ sents (d .run) → Alike o c d
+alike o c d h =
+    let s : State = startOf (openingOf o) in
+    record {
+      records = told-from o c ∙ ap (λ (ms : List Sent). map (λ a. a .fills) (answers s ms)) h ∙ sym (told-from o d);
+      outcomes = said-from o c ∙ ap (λ (ms : List Sent). map (λ a. a .outcome) (answers s ms)) h ∙ sym (said-from o d);
+      text = text-from o c ∙ ap (λ (ms : List Sent). linesText (titleLine ∷ linesFor 1 s ms)) h ∙ sym (text-from o d);
+    }
+
+as-printed : (o : Opening) (c : Copy o) (t : List ℕ) (ms : List Message) → tapeOf t ≡ reads (openingOf o) ms → sents (c .run) ≡ sent ms → textBy (c .run) ≡ tapeText t
+unfolding tapeText linesOf
+as-printed o c t ms h k =
+    let s : State = startOf (openingOf o) in
+    text-from o c ∙ ap (λ (ns : List Sent). linesText (titleLine ∷ linesFor 1 s ns)) k ∙ ap (λ (l : List Line). linesText (titleLine ∷ l)) (lines-from 1 s ms)
+    ∙ sym (ap (λ (x : Tape). linesText (readLines x)) h ∙ ap (λ (x : Opened). linesText (openedLines x ms)) (started-is o c))
+
+pub list-is-fixed : ListIsFixed
+unfolding ListIsFixed
+list-is-fixed o c = record { only = only-told o c; alike = alike o c; printed = as-printed o c }

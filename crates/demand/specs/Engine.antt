@@ -1,21 +1,28 @@
--- Demand 3 about the engine: one claim about an opening and a list of messages, each taken in place by `step` or by `apply`.
+-- Demand 3 and M-101 about the engine: claims about an opening and a list of messages, each taken in place by `step` or by `apply`.
 use mathlib.Core.Path.{_≡_}
-use mathlib.Core.List.{List, [], _∷_, map}
-use Prim.Native.Nat.{ℕ}
+use mathlib.Core.List.{List, [], _∷_, _++_, map}
+use Prim.Native.Nat.{ℕ, _+_}
 use lib.ListN.{length, take}
+use Rattle.rules.specs.Messages as M
 use Rattle.rules.specs.Outcome as O
 use Rattle.rules.specs.Turn as U
 use Rattle.rules.specs.Run.{Sent, startOf}
+use Rattle.rules.specs.Tape.{reads, tapeOf}
+use Rattle.rules.specs.Print.{Line, titleLine, fillLines, refusedLines, closing}
 use Rattle.rules.specs.Demand.{Good}
+use Rattle.rules.specs.Arrival.{noArrivals, AllStand}
 use Rattle.types.specs.declared.Opening.{Opening}
 use Rattle.types.specs.declared.Message.{Message}
 use Rattle.types.specs.declared.Fill.{Fill}
 use Rattle.types.specs.declared.Outcome.{Outcome}
 use Rattle.types.specs.View.{openingOf, messageOf, fillOf, outcomeOf}
+use Rattle.state.specs.View.{stateOf}
 use Rattle.opening.specs.Opens.{Opens}
 use Rattle.engine.specs.declared.Answer.{Answer}
 use Rattle.engine.specs.Steps.{recordsIn, placesIn, IsStep}
 use Rattle.fills.specs.Fills.{IsApplied}
+use Rattle.text.specs.Text.{linesText}
+use Rattle.session.specs.Lines.{sent, tapeText}
 
 -- a message taken by `step`: the message, the list as it was lent and the room that was granted, the answer and the three lists as they came back, and all that the contract of `step` says of them
 pub record Stepped (longs words : List ℕ) : Type 0 where
@@ -68,7 +75,12 @@ fillCount (O.Joined u) = 0
 fillCount (O.Ended c n) = n
 fillCount (O.Refused n) = 0
 
--- the records of an answer: as many as its outcome counts, from the start of the list that came back
+-- the outcome of an answer
+abbrev pub outcomeBy : {longs words : List ℕ} → Taken longs words → O.Outcome
+outcomeBy (byStep a) = outcomeOf (a .answer .outcome)
+outcomeBy (byApply a) = outcomeOf (a .outcome)
+
+-- its records: as many as its outcome counts, from the start of the list that came back
 abbrev pub toldBy : {longs words : List ℕ} → Taken longs words → List U.Fill
 toldBy (byStep a) = recordsIn (a .list′) (fillCount (outcomeOf (a .answer .outcome)))
 toldBy (byApply a) = map fillOf (take (fillCount (outcomeOf (a .outcome))) (a .fills′))
@@ -78,6 +90,7 @@ pub data Run : List ℕ → List ℕ → Type 0 where
   over : (longs words : List ℕ) → Run longs words
   then : (longs words : List ℕ) (a : Taken longs words) → Run (longsAfter a) (wordsAfter a) → Run longs words
 
+-- what was sent, the records that were told, and the outcomes, message by message
 abbrev pub sents : {longs words : List ℕ} → Run longs words → List Sent
 sents (over longs words) = []
 sents (then longs words a run) = sentOf a ∷ sents run
@@ -86,6 +99,57 @@ abbrev pub told : {longs words : List ℕ} → Run longs words → List (List U.
 told (over longs words) = []
 told (then longs words a run) = toldBy a ∷ told run
 
--- for every accepted opening, whatever the slices held before it, and every list of messages, refused ones included, each with lists of any length: the engine's records, given to the turns of the replay from the opening, are good at every turn
+abbrev pub saidBy : {longs words : List ℕ} → Run longs words → List O.Outcome
+saidBy (over longs words) = []
+saidBy (then longs words a run) = outcomeBy a ∷ saidBy run
+
+-- ---- the claims
+
+-- a copy in use: an accepted opening, whatever the slices held before it, and the messages taken since, refused ones included, each with lists of any length
+pub record Copy (o : Opening) : Type 0 where
+  pub longs : List ℕ
+  pub words : List ℕ
+  pub longs′ : List ℕ
+  pub words′ : List ℕ
+  pub number : ℕ
+  pub opened : Opens longs words (openingOf o) number longs′ words′
+  pub accepted : number ≡ 0
+  pub run : Run longs′ words′
+
+-- demand 3: the engine's records, given to the turns of the replay from the opening, are good at every turn
 unfoldable pub Demand3 : Type 0
-Demand3 = (o : Opening) (longs words longs′ words′ : List ℕ) (r : ℕ) → Opens longs words (openingOf o) r longs′ words′ → r ≡ 0 → (run : Run longs′ words′) → Good (startOf (openingOf o)) (sents run) (told run)
+Demand3 = (o : Opening) (c : Copy o) → Good (startOf (openingOf o)) (sents (c .run)) (told (c .run))
+
+-- M-101: at every turn they stand by price, rank and arrival number
+unfoldable pub RecordsByArrival : Type 0
+RecordsByArrival = (o : Opening) (c : Copy o) → AllStand noArrivals (startOf (openingOf o)) (sents (c .run)) (told (c .run))
+
+-- ---- what tapeprint writes of what a copy answers
+
+-- the lines of each answer, from tape position k on, and what is open at the end
+abbrev pub linesBy : {longs words : List ℕ} → ℕ → Run longs words → List Line
+linesBy k (over longs words) = closing (stateOf longs words) ∷ []
+linesBy k (then longs words a run) = fillLines (toldBy a) ++ (refusedLines k (outcomeBy a) ++ linesBy (k + 1) run)
+
+-- their bytes, behind the title's
+abbrev pub textBy : {longs words : List ℕ} → Run longs words → List ℕ
+textBy run = linesText (titleLine ∷ linesBy 1 run)
+
+-- two copies tell the same, record by record and byte by byte
+pub record Alike (o : Opening) (c d : Copy o) : Type 0 where
+  pub records : told (c .run) ≡ told (d .run)
+  pub outcomes : saidBy (c .run) ≡ saidBy (d .run)
+  pub text : textBy (c .run) ≡ textBy (d .run)
+
+-- what fixes the list of a copy
+pub record Fixed (o : Opening) (c : Copy o) : Type 0 where
+  -- no other records are as demand 3 asks and stand by arrival
+  pub only : (rss : List (List U.Fill)) → Good (startOf (openingOf o)) (sents (c .run)) rss → AllStand noArrivals (startOf (openingOf o)) (sents (c .run)) rss → rss ≡ told (c .run)
+  -- another engine that keeps the contracts of `open`, `step` and `apply`, opened alike and sent the same messages with the same places, tells the same
+  pub alike : (d : Copy o) → sents (c .run) ≡ sents (d .run) → Alike o c d
+  -- for a tape that is read as this opening and these messages, with 2,000 places each, its bytes are those that tapeprint writes
+  pub printed : (t : List ℕ) (ms : List M.Message) → tapeOf t ≡ reads (openingOf o) ms → sents (c .run) ≡ sent ms → textBy (c .run) ≡ tapeText t
+
+-- M-101, "the list is fixed to the last record, and so is what tapeprint writes"
+unfoldable pub ListIsFixed : Type 0
+ListIsFixed = (o : Opening) (c : Copy o) → Fixed o c

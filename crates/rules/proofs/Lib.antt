@@ -14,6 +14,9 @@ pub mod LessLaws
 pub mod ExecuteCases
 pub mod LegsLaws
 pub mod ExecuteLaws
+pub mod StandingLaws
+pub mod UniqueLaws
+pub mod FixedLaws
 pub mod SilentLaws
 pub mod ServeLaws
 pub mod ClaimLaws
@@ -22,6 +25,7 @@ pub mod InitiatorLaws
 pub mod CrossLaws
 pub mod PassLaws
 pub mod RunLaws
+pub mod ArrivalLaws
 pub mod ReachedLaws
 pub mod CountLaws
 pub mod BoundLaws

@@ -15,21 +15,24 @@ use Rattle.rules.specs.Step.{Act, goesOn, begins, joining, ends, Intake,
 use Rattle.rules.specs.Run.{Opened, refusedOpening, started, startOf, opening, Sent, answerTo, answers}
 use Rattle.rules.specs.Demand.{GoodTurn, Told, Good, Demand3OfRules}
 use Rattle.rules.specs.Reached.{Inv}
-use Rattle.rules.proofs.ServeLaws.{Kept, steps-kept, ending-kept}
+use Rattle.rules.proofs.ServeLaws.{made-good, Kept, steps-kept, ending-kept}
 use Rattle.rules.proofs.ClaimLaws.{told}
 use Rattle.rules.proofs.IntakeLaws.{Admitted, admitted, take-inv, take-clock, start-inv}
 
-still-kept : (n : ℕ) (s : State) → Inv s → Kept n (still s)
-still-kept n s v = record { inv = v; good = tt; apart = tt }
+pub back : (x : ℕ) → x + 1 - 1 ≡ x
+back x = omega arith
 
-quiet-kept : (s : State) (a : Auction) → Inv s → Kept (s .clock .next - 1) (quiet s a)
+still-kept : (s : State) → Inv s → Kept s (still s)
+still-kept s v = record { inv = v; came = λ a n. n; made = tt; apart = tt }
+
+quiet-kept : (s : State) (a : Auction) → Inv s → Kept s (quiet s a)
 quiet-kept s none v = steps-kept s v
-quiet-kept s (pending p) v = still-kept (s .clock .next - 1) s v
+quiet-kept s (pending p) v = still-kept s v
 
-pub follow-kept : (s : State) (a : Act) → Inv s → Kept (s .clock .next - 1) (follow s a)
+pub follow-kept : (s : State) (a : Act) → Inv s → Kept s (follow s a)
 follow-kept s goesOn v = quiet-kept s (s .auction) v
-follow-kept s begins v = still-kept (s .clock .next - 1) s v
-follow-kept s joining v = still-kept (s .clock .next - 1) s v
+follow-kept s begins v = still-kept s v
+follow-kept s joining v = still-kept s v
 follow-kept s (ends c) v = ending-kept s v
 
 -- an answer: its records are told, and its state keeps the invariant
@@ -37,22 +40,19 @@ pub record Fine (n : ℕ) (a : Answer) : Type 0 where
   pub inv : Inv (a .state)
   pub told : Told (GoodTurn n) (a .turns) (a .fills)
 
-pub answered-fine : (n : ℕ) (b : Body) (a : Act) (r : Reply) → Kept n r → Fine n (answered b a r)
-answered-fine n b a r k = record { inv = k .inv; told = told n (r .turns) (k .good) (k .apart) }
+pub answered-fine : (s : State) (b : Body) (a : Act) (r : Reply) → Kept s r → Fine (s .clock .next - 1) (answered b a r)
+answered-fine s b a r k = record { inv = k .inv; told = told (GoodTurn (s .clock .next - 1)) s r (made-good s) k }
 
 pub acted-fine : (s : State) (b : Body) → Admitted s b → Fine (s .clock .next - 1) (acted s b)
 unfolding acted
 acted-fine s b a =
     let i : Intake = takeIn s b in
-    answered-fine (s .clock .next - 1) b (i .act) (follow (i .state) (i .act))
-    (subst (λ (c : Clock). Kept (c .next - 1) (follow (i .state) (i .act))) (take-clock s b) (follow-kept (i .state) (i .act) (take-inv s b a)))
+    subst (λ (c : Clock). Fine (c .next - 1) (answered b (i .act) (follow (i .state) (i .act)))) (take-clock s b)
+    (answered-fine (i .state) b (i .act) (follow (i .state) (i .act)) (follow-kept (i .state) (i .act) (take-inv s b a)))
 
 accepted-fine : (s : State) (m : Message) (room : ℕ) → Inv s → refusal s m room ≡ 0 → Fine (s .clock .next) (accepted s m)
 unfolding accepted
 accepted-fine s m room v h = subst (λ (n : ℕ). Fine n (acted (taken s (m .time)) (m .body))) (back (s .clock .next)) (acted-fine (taken s (m .time)) (m .body) (admitted s m room v h))
-  where
-    back : (x : ℕ) → x + 1 - 1 ≡ x
-    back x = omega arith
 
 pub step-fine : (s : State) (m : Message) (room : ℕ) → Inv s → Fine (s .clock .next) (step s m room)
 unfolding step

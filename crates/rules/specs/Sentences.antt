@@ -1,4 +1,4 @@
--- Document 01, sentence by sentence: one table of a few messages each, and the fact that the rules answer as it says.
+-- Documents 01 and 02, sentence by sentence: one table of a few messages each, and the fact that the rules answer as it says.
 use mathlib.Core.Path.{_≡_}
 use mathlib.Core.Bool.{true, false}
 use mathlib.Core.List.{List, [], _∷_, _++_, map}
@@ -480,9 +480,18 @@ tapeRows =
     ∷ row 70 (printOf ownCase) (lines (titleLine ∷ fillLine (took 4 8 L legs 100 10) ∷ fillLine (took 4 8 R (entry 7) 100 5) ∷ refusedLine 5 50 ∷ lastLine 1 0 ∷ []))
     ∷ []
 
+-- M-101, "Fill records in arrival order"
+abbrev pub arrivalRows : List Row
+arrivalRows =
+    -- "Records of one order, price and rank now stand by the contra's arrival number": 24, 22 and 23, which was modified; by id or size 22 would be first or last, by its first place 23 first
+    row 71 (answerAfter spread (beganAgainst 1 6 (pos 130)
+    ++ (asks 1 23 2 (pos 128) 0 ∷ asks 1 24 1 (pos 128) 0 ∷ asks 1 22 4 (pos 128) 0 ∷ changes S 23 1 3 (pos 128) ∷ [])) atDeadline)
+    (told (Ended byTime 3) (took 7 7 C (entry 24) 128 1 ∷ took 7 7 C (entry 22) 128 3 ∷ took 7 7 C (entry 23) 128 2 ∷ []) 1 0)
+    ∷ []
+
 -- the table
 abbrev pub sentences : List Row
-sentences = seriesRows ++ priceRows ++ lifeRows ++ auctionRows ++ executionRows ++ turnedBackRows ++ tapeRows
+sentences = seriesRows ++ priceRows ++ lifeRows ++ auctionRows ++ executionRows ++ turnedBackRows ++ tapeRows ++ arrivalRows
 
 -- the rules answer as it says
 unfoldable pub SentencesHold : Type 0

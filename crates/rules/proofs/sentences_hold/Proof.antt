@@ -1,4 +1,4 @@
--- Sentences of document 01: the rules compute what the table says.
+-- Sentences of documents 01 and 02: the rules compute what the table says.
 use mathlib.Core.Path.{refl}
 use Rattle.rules.specs.Series.{daysBefore}
 use Rattle.rules.specs.Strategy.{openingRefusal}
