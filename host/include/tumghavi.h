@@ -174,7 +174,9 @@ static inline uint32_t tumghavi_open(tumghavi_copy *copy, const tumghavi_opening
 
 /*
  * Answers a message. Its fill records stand at the start of fills, as many as the outcome counts; what stands behind them is as
- * it was. Under a refusal the copy and the fills are as they were. Fewer than TUMGHAVI_LEAST_PLACES places are refused with 10.
+ * it was. They stand order by order, as they execute; those of one order by price from the best, then by rank, then by the
+ * contra's arrival number. Under a refusal the copy and the fills are as they were. Fewer than TUMGHAVI_LEAST_PLACES places are
+ * refused with 10.
  */
 static inline tumghavi_outcome tumghavi_step(tumghavi_copy *copy, const tumghavi_message *message, tumghavi_fill *fills, size_t places)
 {

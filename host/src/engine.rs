@@ -33,8 +33,9 @@ impl Engine {
     }
 
     /// Answers a message. Its fill records stand at the start of `fills`, as many as the outcome counts, and every place
-    /// behind them is as it was. A list of fewer than [`Fill::LEAST_PLACES`] places refuses every message with 10. Under a
-    /// refusal the copy and the list are as they were.
+    /// behind them is as it was. They stand order by order, as they execute; those of one order by price from the best, then
+    /// by rank, then by the contra's arrival number. A list of fewer than [`Fill::LEAST_PLACES`] places refuses every message
+    /// with 10. Under a refusal the copy and the list are as they were.
     pub fn step(&mut self, message: &Message, fills: &mut [Fill]) -> Outcome {
         library::step(&mut self.longs, &mut self.words, fills, message.record()).outcome()
     }
