@@ -14,7 +14,7 @@ use Rattle.rules.specs.State.{State, taken}
 use Rattle.rules.specs.Refusals.{leastRoom, refusal}
 use Rattle.rules.specs.Step.{Act, goesOn, begins, joining, ends, takeIn, follow, answered, plain, recordsOf, Answer, acted, accepted, turnedBack, step}
 use Rattle.rules.specs.Strategy as S
-use Rattle.rules.specs.Run.{Opened, started, startOf, opening, Sent, answerTo, answers}
+use Rattle.rules.specs.Run.{Opened, started, startOf, opening, Sent, answerTo, answers, after}
 use Rattle.rules.specs.Tape.{Tape, reads, tapeOf}
 use Rattle.rules.specs.Print.{Line, titleLine, fillLines, refusedLines, closing, linesFrom, openedLines, readLines, linesOf}
 use Rattle.rules.specs.Demand.{Good, Demand3OfRules}
@@ -31,7 +31,7 @@ use Rattle.engine.specs.Steps.{recordsIn, placesIn}
 use Rattle.fills.specs.Fills.{storedRank, storedContra, storedFill, written}
 use Rattle.text.specs.Text.{linesText}
 use Rattle.session.specs.Lines.{sent, tapeText}
-use Rattle.demand.specs.Engine.{Stepped, Applied, Taken, byStep, byApply, longsAfter, wordsAfter, sentOf, fillCount, outcomeBy, toldBy, Run, over, then, sents, told, saidBy, Copy, Demand3, RecordsByArrival, linesBy, textBy, Alike, ListIsFixed}
+use Rattle.demand.specs.Engine.{Stepped, Applied, Taken, byStep, byApply, longsAfter, wordsAfter, sentOf, fillCount, outcomeBy, toldBy, Run, over, then, sents, told, saidBy, endOf, Copy, Demand3, RecordsByArrival, linesBy, textBy, Alike, ListIsFixed}
 
 -- ---- the fill count of an outcome is the number of its records
 
@@ -127,6 +127,11 @@ said-is (then longs words a run) =
     ap₂ (λ (f : O.Outcome) (fs : List O.Outcome). f ∷ fs) (said-here longs words a)
     (said-is run ∙ ap (λ (s : State). map (λ y. y .outcome) (answers s (sents run))) (state-after longs words a))
 
+end-is : {longs words : List ℕ} (run : Run longs words) → endOf run ≡ after (stateOf longs words) (sents run)
+unfolding after
+end-is (over longs words) = refl
+end-is (then longs words a run) = end-is run ∙ ap (λ (s : State). after s (sents run)) (state-after longs words a)
+
 -- the lines of the rules' answers
 abbrev linesFor : ℕ → State → List Sent → List Line
 linesFor k s [] = closing s ∷ []
@@ -173,12 +178,15 @@ module _ (o : Opening) (c : Copy o) where
       → P (startOf (openingOf o)) (sents (c .run)) (told (c .run))
   of-rules P f = rw (start-is, told-is (c .run)) (f (stateOf (c .longs′) (c .words′)) opened-is (sents (c .run)))
 
-  -- the list, the outcomes and the lines are the rules'
+  -- the list, the outcomes, the state and the lines are the rules'
   told-from : told (c .run) ≡ map (λ a. a .fills) (answers (startOf (openingOf o)) (sents (c .run)))
   told-from = told-is (c .run) ∙ ap (λ (s : State). map (λ a. a .fills) (answers s (sents (c .run)))) (sym start-is)
 
   said-from : saidBy (c .run) ≡ map (λ a. a .outcome) (answers (startOf (openingOf o)) (sents (c .run)))
   said-from = said-is (c .run) ∙ ap (λ (s : State). map (λ a. a .outcome) (answers s (sents (c .run)))) (sym start-is)
+
+  end-from : endOf (c .run) ≡ after (startOf (openingOf o)) (sents (c .run))
+  end-from = end-is (c .run) ∙ ap (λ (s : State). after s (sents (c .run))) (sym start-is)
 
   text-from : textBy (c .run) ≡ linesText (titleLine ∷ linesFor 1 (startOf (openingOf o)) (sents (c .run)))
   text-from = ap (λ (l : List Line). linesText (titleLine ∷ l)) (lines-are 1 (c .run) ∙ ap (λ (s : State). linesFor 1 s (sents (c .run))) (sym start-is))
@@ -201,6 +209,7 @@ alike o c d h =
     record {
       records = told-from o c ∙ ap (λ (ms : List Sent). map (λ a. a .fills) (answers s ms)) h ∙ sym (told-from o d);
       outcomes = said-from o c ∙ ap (λ (ms : List Sent). map (λ a. a .outcome) (answers s ms)) h ∙ sym (said-from o d);
+      state = end-from o c ∙ ap (after s) h ∙ sym (end-from o d);
       text = text-from o c ∙ ap (λ (ms : List Sent). linesText (titleLine ∷ linesFor 1 s ms)) h ∙ sym (text-from o d);
     }
 

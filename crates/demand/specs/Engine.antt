@@ -6,6 +6,7 @@ use lib.ListN.{length, take}
 use Rattle.rules.specs.Messages as M
 use Rattle.rules.specs.Outcome as O
 use Rattle.rules.specs.Turn as U
+use Rattle.rules.specs.State.{State}
 use Rattle.rules.specs.Run.{Sent, startOf}
 use Rattle.rules.specs.Tape.{reads, tapeOf}
 use Rattle.rules.specs.Print.{Line, titleLine, fillLines, refusedLines, closing}
@@ -103,6 +104,11 @@ abbrev pub saidBy : {longs words : List ℕ} → Run longs words → List O.Outc
 saidBy (over longs words) = []
 saidBy (then longs words a run) = outcomeBy a ∷ saidBy run
 
+-- the state that they leave
+abbrev pub endOf : {longs words : List ℕ} → Run longs words → State
+endOf (over longs words) = stateOf longs words
+endOf (then longs words a run) = endOf run
+
 -- ---- the claims
 
 -- a copy in use: an accepted opening, whatever the slices held before it, and the messages taken since, refused ones included, each with lists of any length
@@ -135,10 +141,11 @@ linesBy k (then longs words a run) = fillLines (toldBy a) ++ (refusedLines k (ou
 abbrev pub textBy : {longs words : List ℕ} → Run longs words → List ℕ
 textBy run = linesText (titleLine ∷ linesBy 1 run)
 
--- two copies tell the same, record by record and byte by byte
+-- two copies tell the same, record by record and byte by byte, and are left with the same state
 pub record Alike (o : Opening) (c d : Copy o) : Type 0 where
   pub records : told (c .run) ≡ told (d .run)
   pub outcomes : saidBy (c .run) ≡ saidBy (d .run)
+  pub state : endOf (c .run) ≡ endOf (d .run)
   pub text : textBy (c .run) ≡ textBy (d .run)
 
 -- what fixes the list of a copy

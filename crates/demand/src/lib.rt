@@ -11,7 +11,7 @@ pub fn records_by_arrival()
     ensures { λ r. ⌜ RecordsByArrival ⌝ }
 {}
 
-// M-101: no other records keep both promises; and two engines give the same records, outcomes and bytes of tapeprint. The first rests on demand 3 and the sequence alone, the second on the contracts: they equate state, outcome and records with the rules', and what tapeprint writes with the text of those.
+// M-101: no other records keep both promises; and two engines give the same records, outcomes, states and bytes of tapeprint. The first rests on demand 3 and the sequence alone, the second on the contracts: they equate state, outcome and records with the rules', and what tapeprint writes with the text of those.
 pub fn list_is_fixed()
     ensures { λ r. ⌜ ListIsFixed ⌝ }
 {}
