@@ -1,6 +1,7 @@
 //! A tape told message by message: what each was, its outcome, the turns with what was open and
-//! how it was shared, and why a message was turned back.
+//! how it was shared, the averages of the orders that executed, and why a message was turned back.
 
+use crate::average::{average, averages};
 use crate::book::{Account, Entry, Standing};
 use crate::engine::{Cause, Engine, Outcome};
 use crate::execution::{Contra, Fill, FillList, Mode, Sharing, Turn, Watch};
@@ -48,6 +49,9 @@ fn explain_session(tape: &Tape) -> String {
         text += "\n";
         text += &format!("  {}\n", answer(&outcome, &message, &before, &engine));
         text += &turns.text;
+        let fills = &fills[..outcome.fill_count()];
+        text += &average_lines(fills);
+        text += &no_average_line(&message.request, &outcome, fills, &engine);
         if matches!(message.request, Request::Local { .. }) {
             text += &derived_line(&engine);
         }
@@ -518,5 +522,36 @@ impl Watch for Turns {
         if records.is_empty() {
             self.text += "    no fill\n";
         }
+    }
+}
+
+// The averages.
+
+/// The average of each order that executed.
+fn average_lines(fills: &[Fill]) -> String {
+    let averages = averages(fills);
+    let lines = averages.iter().map(|average| {
+        format!(
+            "  average of order {}: a sum of {} over {} units is {} remainder {}\n",
+            average.order,
+            average.sum,
+            average.units,
+            average.quotient(),
+            average.remainder()
+        )
+    });
+    lines.collect()
+}
+
+/// An arriving order that had its turn and no fills has no average. While an auction is pending it
+/// has had no turn yet.
+fn no_average_line(request: &Request, outcome: &Outcome, fills: &[Fill], after: &Engine) -> String {
+    match (request, outcome) {
+        (Request::Order { terms, .. }, Outcome::Placed { .. } | Outcome::Ended { .. })
+            if after.auction().is_none() && average(terms.id, fills).is_none() =>
+        {
+            format!("  average of order {}: none, it has no fills\n", terms.id)
+        }
+        _ => String::new(),
     }
 }

@@ -3,7 +3,7 @@
 
 use crate::engine::{Cause, Engine, Outcome};
 use crate::execution::{Fill, FillList};
-use crate::print::fill_line;
+use crate::print::fill_lines;
 use crate::strategy::{Leg, Strategy};
 use crate::tape::{Header, Misfit, Record, Tape};
 use crate::Refusal;
@@ -90,11 +90,7 @@ fn answer(engine: &mut Engine, record: &Record, fills: &mut [Fill]) -> String {
         return refused_line(61);
     };
     let outcome = engine.apply(&message, fills);
-    let mut text = outcome_line(&outcome);
-    for fill in &fills[..outcome.fill_count()] {
-        text += &fill_line(fill);
-    }
-    text
+    outcome_line(&outcome) + &fill_lines(&fills[..outcome.fill_count()])
 }
 
 fn refused_line(number: Refusal) -> String {

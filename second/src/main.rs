@@ -16,7 +16,7 @@ use std::process::ExitCode;
 
 const USAGE: &str = "\
 usage: second COMMAND
-  tapeprint [TAPE]    fills, refusals and what is left open
+  tapeprint [TAPE]    fills, averages, refusals and what is left open
   make [TEXT]         the tape of a session in text
   dump [TAPE]         the text of a tape
   explain [TAPE]      a tape told message by message

@@ -1,5 +1,6 @@
 //! Running a tape through the engine, and what tapeprint and tapeform print of it.
 
+use crate::average::{averages, Average};
 use crate::engine::{Engine, Outcome};
 use crate::execution::{Contra, Fill, FillList};
 use crate::form::form;
@@ -36,7 +37,7 @@ pub fn contra_number(contra: Contra) -> u32 {
 }
 
 /// A fill's six values.
-pub fn fill_line(fill: &Fill) -> String {
+fn fill_line(fill: &Fill) -> String {
     format!(
         "{} {} {} {} {} {}\n",
         fill.number,
@@ -46,6 +47,18 @@ pub fn fill_line(fill: &Fill) -> String {
         fill.price,
         fill.units
     )
+}
+
+fn average_line(average: &Average) -> String {
+    let (quotient, remainder) = (average.quotient(), average.remainder());
+    format!("average {} {quotient} {remainder}\n", average.order)
+}
+
+/// The lines of a message's fills: the fills, and then the averages of their orders.
+pub fn fill_lines(fills: &[Fill]) -> String {
+    let averages = averages(fills);
+    let lines = fills.iter().map(fill_line);
+    lines.chain(averages.iter().map(average_line)).collect()
 }
 
 /// "The last line counts open orders and responses."
@@ -64,9 +77,7 @@ fn refused_line(number: Refusal) -> String {
 pub fn tapeprint(bytes: &[u8]) -> String {
     let mut text = format!("{TITLE}\n");
     let run = run_tape(bytes, |position, outcome, fills| {
-        for fill in fills {
-            text.push_str(&fill_line(fill));
-        }
+        text.push_str(&fill_lines(fills));
         if let Outcome::Refused { number } = outcome {
             // Writing to a string does not fail.
             let _ = writeln!(text, "refused {position} {number}");

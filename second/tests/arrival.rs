@@ -264,6 +264,7 @@ fn a_modified_response_stands_last() {
             "8 1 C 24 100 1",
             "8 1 C 22 100 3",
             "8 1 C 23 100 2",
+            "average 1 100 0",
             "open 0 answers 0",
         ],
     );

@@ -15,6 +15,7 @@ fn own_case_byte_for_byte() {
     let printed = "number order rank contra price units\n\
                    4 8 L 0 100 10\n\
                    4 8 R 7 100 5\n\
+                   average 8 100 0\n\
                    refused 5 50\n\
                    open 1 answers 0\n";
     assert_eq!(tapeprint(&tape), printed);
@@ -60,6 +61,7 @@ fn buy_100_at_115_in_auction() {
             "12 4 N 2 115 1",
             "12 4 N 3 115 1",
             "12 4 N 9 115 13",
+            "average 4 114 30",
             "open 2 answers 0",
         ],
     );
@@ -101,6 +103,7 @@ fn sharing_by_size_in_an_auction() {
             "6 1 C 2 100 2",
             "6 1 C 3 100 1",
             "6 1 C 4 100 1",
+            "average 1 100 0",
             "open 1 answers 0",
         ],
     );
@@ -110,6 +113,7 @@ fn sharing_by_size_in_an_auction() {
             "6 1 C 2 100 3",
             "6 1 C 3 100 3",
             "6 1 C 4 100 3",
+            "average 1 100 0",
             "open 1 answers 0",
         ],
     );
@@ -251,6 +255,7 @@ fn late_legs_are_not_in_front() {
             "7 1 C 2 120 4",
             "7 1 N 3 120 4",
             "7 1 T 0 120 2",
+            "average 1 120 0",
             "open 0 answers 0",
         ],
     );
@@ -261,6 +266,6 @@ fn late_legs_are_not_in_front() {
 fn a_resting_buyer_pays_what_the_legs_ask() {
     spread().prints(
         &all(&[&market(), &[buy(1, 4, 120), local(0, 200, 10, 215, 10)]]),
-        &["4 1 L 0 105 4", "open 0 answers 0"],
+        &["4 1 L 0 105 4", "average 1 105 0", "open 0 answers 0"],
     );
 }

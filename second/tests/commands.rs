@@ -34,7 +34,7 @@ fn the_own_case_goes_through_all_commands() {
     assert_eq!(output(&["make"], &text), tape);
     let printed = output(&["tapeprint"], &tape);
     let expected = "number order rank contra price units\n4 8 L 0 100 10\n4 8 R 7 100 5\n\
-                    refused 5 50\nopen 1 answers 0\n";
+                    average 8 100 0\nrefused 5 50\nopen 1 answers 0\n";
     assert_eq!(String::from_utf8(printed).unwrap(), expected);
     // It is made in its form.
     assert_eq!(output(&["form"], &tape), tape);
@@ -43,6 +43,7 @@ fn the_own_case_goes_through_all_commands() {
     let told = String::from_utf8(output(&["explain"], &tape)).unwrap();
     assert!(told.contains("refused 50: no open order 9 of participant 1"));
     assert!(told.contains("fill: 5 units at 100 with 7, rank R"));
+    assert!(told.contains("average of order 8: a sum of 1500 over 15 units is 100 remainder 0"));
 }
 
 /// Each answer is there before the next message is, and before the input ends.
@@ -65,7 +66,12 @@ fn live_answers_at_once() {
         (&records[72..108], &["placed 10 0"]),
         (
             &records[108..144],
-            &["placed 0 2", "4 8 L 0 100 10", "4 8 R 7 100 5"],
+            &[
+                "placed 0 2",
+                "4 8 L 0 100 10",
+                "4 8 R 7 100 5",
+                "average 8 100 0",
+            ],
         ),
         (&[8; 36], &["refused 61"]),
         (&records[144..], &["refused 50"]),

@@ -44,6 +44,7 @@ fn the_auction_of_000_and_001() {
             "12 10 N 2 115 1",
             "12 10 N 3 115 1",
             "12 10 N 8 115 13",
+            "average 10 114 30",
             "open 2 answers 0",
         ],
     );
@@ -66,7 +67,7 @@ fn opposite_orders_of_000_trade_in_the_auction() {
             ],
         ]),
         // The balance of order 4 is live, order 2 too.
-        &["7 1 N 4 118 6", "open 2 answers 0"],
+        &["7 1 N 4 118 6", "average 1 118 0", "open 2 answers 0"],
     );
 }
 
@@ -94,6 +95,9 @@ fn equal_and_worse_orders_of_000_join() {
             "7 1 C 4 117 5",
             "7 3 C 4 117 5",
             "7 2 C 4 117 2",
+            "average 1 117 0",
+            "average 3 117 0",
+            "average 2 117 0",
             "open 1 answers 0",
         ],
     );
@@ -121,7 +125,13 @@ fn a_better_order_of_000_ends_the_auction_and_begins_none() {
     // The response's two left expire; order 4 meets order 3 as it goes live.
     spread().prints(
         &messages,
-        &["6 1 C 2 119 5", "6 4 R 3 120 4", "open 1 answers 0"],
+        &[
+            "6 1 C 2 119 5",
+            "6 4 R 3 120 4",
+            "average 1 119 0",
+            "average 4 120 0",
+            "open 1 answers 0",
+        ],
     );
 }
 
@@ -139,7 +149,12 @@ fn improved_legs_of_000_come_last() {
                 clock(500),
             ],
         ]),
-        &["6 1 N 2 125 8", "6 1 T 0 125 10", "open 1 answers 0"],
+        &[
+            "6 1 N 2 125 8",
+            "6 1 T 0 125 10",
+            "average 1 125 0",
+            "open 1 answers 0",
+        ],
     );
 }
 
@@ -216,7 +231,7 @@ fn example_5_of_002_as_document_01_has_it() {
 fn the_first_order_of_003_meets_the_legs() {
     spread().prints(
         &all(&[&market(), &[buy(1, 10, 130)]]),
-        &["3 1 L 0 130 10", "open 0 answers 0"],
+        &["3 1 L 0 130 10", "average 1 130 0", "open 0 answers 0"],
     );
 }
 
@@ -226,7 +241,7 @@ fn the_first_order_of_003_meets_the_legs() {
 fn the_posted_order_of_003_is_matched() {
     spread().prints(
         &all(&[&market(), &[buy(1, 10, 100), sell(2, 10, 100)]]),
-        &["4 2 R 1 100 10", "open 0 answers 0"],
+        &["4 2 R 1 100 10", "average 2 100 0", "open 0 answers 0"],
     );
 }
 
@@ -243,7 +258,12 @@ fn the_legs_of_003_keep_priority_at_the_same_price() {
                 sell(2, 15, 100),
             ],
         ]),
-        &["5 2 L 0 100 10", "5 2 R 1 100 5", "open 1 answers 0"],
+        &[
+            "5 2 L 0 100 10",
+            "5 2 R 1 100 5",
+            "average 2 100 0",
+            "open 1 answers 0",
+        ],
     );
 }
 
@@ -253,7 +273,7 @@ fn the_legs_of_003_keep_priority_at_the_same_price() {
 fn the_posted_order_of_003_is_executed_when_the_legs_move() {
     spread().prints(
         &all(&[&market(), &[buy(1, 12, 100), local(0, 205, 10, 210, 10)]]),
-        &["4 1 L 0 100 10", "open 1 answers 0"],
+        &["4 1 L 0 100 10", "average 1 100 0", "open 1 answers 0"],
     );
 }
 
@@ -274,6 +294,7 @@ fn strict_time_priority_of_003() {
             "6 4 R 3 101 3",
             "6 4 R 1 100 3",
             "6 4 R 2 100 2",
+            "average 4 100 3",
             "open 1 answers 0",
         ],
     );

@@ -37,19 +37,25 @@ fn every_outcome() -> (Vec<Record>, Vec<&'static str>) {
         (sell(4, 3, 119).modify().at(1_001), "noted 0"),
         (cancel(9).at(1_001), "refused 50"),
         // The ninth that is accepted: no record that is turned back takes a number.
-        (clock(1_500), "ended time 2\n9 2 C 4 119 3\n9 2 L 0 130 2"),
+        (
+            clock(1_500),
+            "ended time 2\n9 2 C 4 119 3\n9 2 L 0 130 2\naverage 2 123 2",
+        ),
         (buy(5, 5, 125).wish().at(1_600), "begun 2100"),
         (sell(8, 2, 125).non_customer().at(1_600), "placed 2 0"),
-        (buy(6, 1, 126).at(1_600), "ended order 1\n12 5 N 8 125 2"),
+        (
+            buy(6, 1, 126).at(1_600),
+            "ended order 1\n12 5 N 8 125 2\naverage 5 125 0",
+        ),
         (buy(7, 2, 128).wish().at(1_700), "begun 2200"),
         (sell(10, 1, 128).at(1_700), "placed 1 0"),
         (
             local(0, 300, 4, 310, 4).at(1_800),
-            "ended legs 1\n15 7 C 10 128 1",
+            "ended legs 1\n15 7 C 10 128 1\naverage 7 128 0",
         ),
         (
             sell(11, 6, 100).at(1_800),
-            "placed 0 3\n16 11 L 0 175 4\n16 11 R 7 128 1\n16 11 R 6 126 1",
+            "placed 0 3\n16 11 L 0 175 4\n16 11 R 7 128 1\n16 11 R 6 126 1\naverage 11 159 0",
         ),
         (cancel(1).at(1_800), "noted 0"),
     ];
@@ -84,6 +90,7 @@ fn the_own_case_is_answered() {
         "placed 0 2",
         "4 8 L 0 100 10",
         "4 8 R 7 100 5",
+        "average 8 100 0",
         "refused 50",
     ];
     assert_eq!(answers(&spread().tape(&messages)), text(&expected));
@@ -95,10 +102,12 @@ fn a_message_may_have_many_fills() {
     let sells: Vec<Record> = (1..=20).map(|id| sell(id, 1, 100 + id as i32)).collect();
     let answers = answers(&spread().tape(&all(&[&sells, &[buy(99, 100, 130)]])));
     let lines: Vec<&str> = answers.lines().collect();
-    assert_eq!(lines.len(), 1 + 20 + 1 + 20);
+    assert_eq!(lines.len(), 1 + 20 + 1 + 20 + 1);
     assert_eq!(lines[21], "placed 80 20");
     assert_eq!(lines[22], "21 99 R 1 101 1");
     assert_eq!(lines[41], "21 99 R 20 120 1");
+    // A sum of 2,210 over 20 units.
+    assert_eq!(lines[42], "average 99 110 10");
 }
 
 // The opening.
@@ -241,8 +250,9 @@ fn printed(answers: &str) -> Vec<String> {
     let mut lines = Vec::new();
     let mut position = 0;
     for line in answers.lines().skip(1) {
+        let fill = line.starts_with(|c: char| c.is_ascii_digit());
         match line.strip_prefix("refused ") {
-            _ if line.starts_with(|c: char| c.is_ascii_digit()) => lines.push(line.to_string()),
+            _ if fill || line.starts_with("average ") => lines.push(line.to_string()),
             Some(number) => {
                 position += 1;
                 lines.push(format!("refused {position} {number}"));
@@ -303,6 +313,7 @@ fn fill_counts_are_those_of_the_lines() {
                     count += 1;
                 }
                 assert_eq!(said, count.to_string(), "{} {seed}", profile.name);
+                while lines.next_if(|l| l.starts_with("average ")).is_some() {}
             }
         }
     }

@@ -141,6 +141,7 @@ fn prices_are_signed_and_all_else_is_not() {
         ],
         &[
             "2 1 R 4294967295 -5 1",
+            "average 1 -5 0",
             "refused 3 21",
             "refused 4 30",
             "refused 5 11",
@@ -222,8 +223,10 @@ fn refused_lines_and_fills_stand_in_tape_order() {
         &[
             "refused 3 50",
             "3 1 L 0 130 1",
+            "average 1 130 0",
             "refused 5 50",
             "4 2 L 0 130 1",
+            "average 2 130 0",
             "open 0 answers 0",
         ],
     );
@@ -399,7 +402,7 @@ fn the_first_number_may_be_0() {
     let session = spread().set(|s| s.first_number = 0);
     session.prints(
         &[sell(1, 1, 5), buy(2, 1, 5)],
-        &["1 2 R 1 5 1", "open 0 answers 0"],
+        &["1 2 R 1 5 1", "average 2 5 0", "open 0 answers 0"],
     );
     let messages = [local(0, 1, 1, 9, 1)];
     assert_eq!(session.last_outcome(&messages), noted());
@@ -460,6 +463,7 @@ fn refused_messages_take_no_number_and_move_no_time() {
         &[
             "refused 2 50",
             "2 2 R 1 5 1",
+            "average 2 5 0",
             "refused 4 11",
             "open 0 answers 0",
         ],
@@ -716,7 +720,10 @@ fn a_quote_of_two_absent_sides_clears_the_leg() {
 #[test]
 fn held_orders_go_live_one_after_the_other_and_meet_each_other() {
     let messages = after_market(&[buy(1, 5, 100).wish(), sell(2, 9, 125), buy(3, 6, 127)]);
-    spread().prints(&messages, &["5 3 R 2 125 6", "open 2 answers 0"]);
+    spread().prints(
+        &messages,
+        &["5 3 R 2 125 6", "average 3 125 0", "open 2 answers 0"],
+    );
 }
 
 #[test]
@@ -728,7 +735,10 @@ fn held_orders_meet_improved_legs_before_an_older_and_better_live_order() {
         // The derived ask falls to 97 for 5 units, and the auction ends.
         local(0, 200, 10, 207, 5),
     ]);
-    spread().prints(&messages, &["6 3 L 0 97 5", "open 2 answers 0"]);
+    spread().prints(
+        &messages,
+        &["6 3 L 0 97 5", "average 3 97 0", "open 2 answers 0"],
+    );
 }
 
 #[test]
@@ -745,6 +755,9 @@ fn live_orders_meet_the_legs_best_price_first_then_arrival() {
             "6 2 L 0 100 4",
             "6 1 L 0 100 4",
             "6 3 L 0 100 2",
+            "average 2 100 0",
+            "average 1 100 0",
+            "average 3 100 0",
             "open 1 answers 0",
         ],
     );
@@ -760,6 +773,9 @@ fn live_orders_meet_the_legs_best_price_first_then_arrival() {
             "6 2 L 0 120 4",
             "6 1 L 0 120 4",
             "6 3 L 0 120 2",
+            "average 2 120 0",
+            "average 1 120 0",
+            "average 3 120 0",
             "open 1 answers 0",
         ],
     );
@@ -775,7 +791,12 @@ fn remainders_of_the_queue_keep_their_own_arrival_number() {
     ]);
     spread().prints(
         &messages,
-        &["6 3 R 1 100 5", "6 3 R 2 100 1", "open 1 answers 0"],
+        &[
+            "6 3 R 1 100 5",
+            "6 3 R 2 100 1",
+            "average 3 100 0",
+            "open 1 answers 0",
+        ],
     );
 }
 
@@ -996,6 +1017,7 @@ fn a_modified_response_takes_the_new_number_and_loses_ties() {
             "8 1 C 3 100 2",
             "8 1 C 4 100 1",
             "8 1 C 2 100 1",
+            "average 1 100 0",
             "open 0 answers 0",
         ],
     );
@@ -1015,7 +1037,7 @@ fn a_response_may_change_sides_and_same_side_ones_never_trade() {
     spread().prints(&messages(buy(2, 4, 100).modify()), &["open 1 answers 0"]);
     spread().prints(
         &messages(sell(2, 3, 99).modify()),
-        &["7 1 C 2 99 3", "open 1 answers 0"],
+        &["7 1 C 2 99 3", "average 1 99 0", "open 1 answers 0"],
     );
 }
 
@@ -1208,6 +1230,8 @@ fn queue_orders_take_whole_turns_by_price_then_arrival() {
             "8 1 C 4 98 5",
             "8 3 C 4 98 2",
             "8 3 C 5 100 3",
+            "average 1 98 0",
+            "average 3 99 1",
             "open 1 answers 0",
         ],
     );
@@ -1228,6 +1252,7 @@ fn orders_that_came_during_the_auction_are_open_to_the_queue() {
             "7 1 C 9 101 2",
             "7 1 C 3 101 2",
             "7 1 N 2 101 2",
+            "average 1 101 0",
             "open 1 answers 0",
         ],
     );
@@ -1264,7 +1289,10 @@ fn legs_are_late_if_none_existed_at_the_start() {
         market()[1],
         clock(500),
     ];
-    spread().prints(&messages, &["5 1 T 0 130 3", "open 1 answers 0"]);
+    spread().prints(
+        &messages,
+        &["5 1 T 0 130 3", "average 1 130 0", "open 1 answers 0"],
+    );
 }
 
 #[test]
@@ -1273,11 +1301,11 @@ fn the_start_is_the_sellers_derived_bid_for_sellers() {
     // The derived ask moves: no matter. The derived bid moves up: late.
     spread().prints(
         &with(local(0, 220, 10, 235, 10)),
-        &["5 1 L 0 95 3", "open 0 answers 0"],
+        &["5 1 L 0 95 3", "average 1 95 0", "open 0 answers 0"],
     );
     spread().prints(
         &with(local(0, 221, 10, 240, 10)),
-        &["5 1 T 0 96 3", "open 0 answers 0"],
+        &["5 1 T 0 96 3", "average 1 96 0", "open 0 answers 0"],
     );
 }
 
@@ -1291,7 +1319,12 @@ fn late_legs_at_a_better_price_than_all_others_go_first() {
     ]);
     spread().prints(
         &messages,
-        &["6 1 T 0 120 10", "6 1 C 2 125 2", "open 0 answers 0"],
+        &[
+            "6 1 T 0 120 10",
+            "6 1 C 2 125 2",
+            "average 1 120 10",
+            "open 0 answers 0",
+        ],
     );
 }
 
@@ -1313,6 +1346,8 @@ fn sizes_in_the_sharing_are_those_left_by_earlier_queue_orders() {
             "8 1 C 4 100 2",
             "8 2 C 3 100 4",
             "8 2 C 4 100 2",
+            "average 1 100 0",
+            "average 2 100 0",
             "open 0 answers 0",
         ],
     );
@@ -1329,7 +1364,12 @@ fn a_share_of_0_has_no_record() {
     ]);
     spread().prints(
         &messages,
-        &["7 1 C 3 100 1", "7 1 C 4 100 1", "open 0 answers 0"],
+        &[
+            "7 1 C 3 100 1",
+            "7 1 C 4 100 1",
+            "average 1 100 0",
+            "open 0 answers 0",
+        ],
     );
 }
 
@@ -1337,7 +1377,7 @@ fn a_share_of_0_has_no_record() {
 fn a_participant_trades_with_itself() {
     spread().prints(
         &[sell(1, 1, 5), buy(2, 1, 5)],
-        &["2 2 R 1 5 1", "open 0 answers 0"],
+        &["2 2 R 1 5 1", "average 2 5 0", "open 0 answers 0"],
     );
 }
 
@@ -1349,7 +1389,12 @@ fn outside_an_auction_the_account_does_not_matter() {
             sell(2, 2, 5),
             buy(3, 3, 5).non_customer(),
         ],
-        &["3 3 R 1 5 2", "3 3 R 2 5 1", "open 1 answers 0"],
+        &[
+            "3 3 R 1 5 2",
+            "3 3 R 2 5 1",
+            "average 3 5 0",
+            "open 1 answers 0",
+        ],
     );
 }
 
@@ -1358,7 +1403,10 @@ fn the_rank_is_by_the_contras_account_and_not_the_orders() {
     let messages =
         |order: Record| after_market(&[order.wish(), sell(2, 1, 100).response(), clock(500)]);
     for order in [buy(1, 1, 100), buy(1, 1, 100).non_customer()] {
-        spread().prints(&messages(order), &["5 1 C 2 100 1", "open 0 answers 0"]);
+        spread().prints(
+            &messages(order),
+            &["5 1 C 2 100 1", "average 1 100 0", "open 0 answers 0"],
+        );
     }
 }
 
@@ -1375,7 +1423,10 @@ fn a_side_with_fewer_contracts_than_its_ratio_has_no_derived_price_but_stays() {
         buy(1, 9, 150),
         buy(2, 1, 200),
     ];
-    session.prints(&messages, &["3 1 L 0 150 2", "open 2 answers 0"]);
+    session.prints(
+        &messages,
+        &["3 1 L 0 150 2", "average 1 150 0", "open 2 answers 0"],
+    );
     let mut engine = session.engine();
     let mut fills = vec![Fill::BLANK; 2_000];
     for record in messages {
@@ -1414,6 +1465,9 @@ fn fills_of_the_ender_and_of_held_orders_follow_the_queues_in_one_message() {
             "7 1 C 4 95 5",
             "7 4 L 0 95 4",
             "7 5 R 3 110 4",
+            "average 1 95 0",
+            "average 4 95 0",
+            "average 5 110 0",
             "open 1 answers 0",
         ],
     );

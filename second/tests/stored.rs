@@ -1,36 +1,53 @@
-//! Stored sessions: each tape prints what its .out file holds, and its form what its .form file
-//! holds, byte for byte.
+//! Stored sessions: a tape prints what its .out file holds, and its form what its .form file holds,
+//! byte for byte.
 
 use second::print::{tapeform, tapeprint};
+use std::collections::BTreeSet;
 use std::fs;
 use std::path::{Path, PathBuf};
 
-fn stored_tapes() -> Vec<PathBuf> {
+/// The stored files of an extension.
+fn stored(extension: &str) -> BTreeSet<PathBuf> {
     let folder = Path::new(env!("CARGO_MANIFEST_DIR")).join("sessions/stored");
     let files = fs::read_dir(folder)
         .unwrap()
         .map(|file| file.unwrap().path());
-    let mut tapes: Vec<PathBuf> = files.filter(|p| p.extension().unwrap() == "tape").collect();
-    tapes.sort();
-    tapes
+    files
+        .filter(|path| path.extension().unwrap() == extension)
+        .collect()
+}
+
+/// The tape beside a stored file.
+fn tape_of(stored: &Path) -> Vec<u8> {
+    fs::read(stored.with_extension("tape")).unwrap()
 }
 
 #[test]
-fn stored_sessions_print_as_stored() {
-    let tapes = stored_tapes();
-    assert_eq!(tapes.len(), 56);
-    for tape in tapes {
-        let expected = fs::read_to_string(tape.with_extension("out")).unwrap();
-        let printed = tapeprint(&fs::read(&tape).unwrap());
-        assert_eq!(printed, expected, "{}", tape.display());
+fn stored_tapes_print_as_stored() {
+    let outs = stored("out");
+    assert_eq!(outs.len(), 68);
+    for out in outs {
+        let expected = fs::read_to_string(&out).unwrap();
+        assert_eq!(tapeprint(&tape_of(&out)), expected, "{}", out.display());
     }
 }
 
 #[test]
 fn stored_tapes_have_their_stored_forms() {
-    for tape in stored_tapes() {
-        let expected = fs::read(tape.with_extension("form")).unwrap();
-        let printed = tapeform(&fs::read(&tape).unwrap());
-        assert_eq!(printed, expected, "{}", tape.display());
+    let forms = stored("form");
+    assert_eq!(forms.len(), 56);
+    for form in forms {
+        let expected = fs::read(&form).unwrap();
+        assert_eq!(tapeform(&tape_of(&form)), expected, "{}", form.display());
     }
+}
+
+/// No tape is stored for nothing.
+#[test]
+fn each_stored_tape_has_an_out_or_a_form() {
+    let beside = |extension| -> BTreeSet<PathBuf> {
+        let files = stored(extension).into_iter();
+        files.map(|path| path.with_extension("tape")).collect()
+    };
+    assert_eq!(stored("tape"), &beside("out") | &beside("form"));
 }
