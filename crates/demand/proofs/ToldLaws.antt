@@ -1,12 +1,12 @@
 -- What the engine tells is what the rules answer.
-use mathlib.Core.Path.{_≡_, refl, ap, ap₂, sym, _∙_}
+use mathlib.Core.Path.{_≡_, refl, ap, ap₂, sym, _∙_, subst}
 use mathlib.Core.Bool.{Bool, true, false}
 use mathlib.Core.List.{List, [], _∷_, _++_, map}
-use Prim.Native.Nat.{ℕ, _+_}
+use Prim.Native.Nat.{ℕ, _+_, _≤_}
 use native.Mathlib.Omega.{arith}
 use lib.Dec.{eqb}
 use lib.ListN.{length, take, drop}
-use Rattle.rules.specs.Basics.{pick}
+use Rattle.rules.specs.Basics.{pick, All}
 use Rattle.rules.specs.Turn as U
 use Rattle.rules.specs.Outcome as O
 use Rattle.rules.specs.Messages.{Body, local, national, order, response, modify, cancel, clock, Message}
@@ -16,22 +16,29 @@ use Rattle.rules.specs.Step.{Act, goesOn, begins, joining, ends, takeIn, follow
 use Rattle.rules.specs.Strategy as S
 use Rattle.rules.specs.Run.{Opened, started, startOf, opening, Sent, answerTo, answers, after}
 use Rattle.rules.specs.Tape.{Tape, reads, tapeOf}
-use Rattle.rules.specs.Print.{Line, titleLine, fillLines, refusedLines, closing, linesFrom, openedLines, readLines, linesOf}
+use Rattle.rules.specs.Print.{Line, titleLine, recordLines, refusedLines, closing, linesFrom, openedLines, readLines, linesOf}
 use Rattle.rules.specs.Demand.{Good, Demand3OfRules}
+use Rattle.rules.specs.Average.{averageFor, Says, GoodAverages, AveragesAreExactOfRules}
+use Rattle.rules.specs.Bound.{RecordsFit}
 use Rattle.rules.specs.Arrival.{noArrivals, AllStand, RecordsByArrivalOfRules, RecordsAreFixed}
 use Rattle.rules.proofs.RunLaws.{opened, demand-3-of-rules}
+use Rattle.rules.proofs.BoundLaws.{records-fit}
+use Rattle.rules.proofs.AverageLaws.{averages-are-exact-of-rules}
 use Rattle.rules.proofs.ArrivalLaws.{records-by-arrival-of-rules, records-are-fixed}
 use Rattle.types.specs.declared.Opening.{Opening}
 use Rattle.types.specs.declared.Fill.{Fill}
-use Rattle.types.specs.View.{openingOf, messageOf, rankOf, contraOf, fillOf}
+use Rattle.types.specs.View.{openingOf, messageOf, rankOf, contraOf, fillOf, outcomeOf}
 use Rattle.state.specs.Layout.{isSized}
-use Rattle.state.specs.View.{stateOf}
+use Rattle.types.proofs.TableLaws.{from-length}
+use Rattle.state.specs.View.{openCount, entryAt, stateOf}
 use Rattle.opening.specs.Opens.{openedBy, Opens}
 use Rattle.engine.specs.Steps.{recordsIn, placesIn}
+use Rattle.average.specs.Sums.{firstRecords}
+use Rattle.text.proofs.FillLaws.{records-known}
 use Rattle.fills.specs.Fills.{storedRank, storedContra, storedFill, written}
 use Rattle.text.specs.Text.{linesText}
 use Rattle.session.specs.Lines.{sent, tapeText}
-use Rattle.demand.specs.Engine.{Stepped, Applied, Taken, byStep, byApply, longsAfter, wordsAfter, sentOf, fillCount, outcomeBy, toldBy, Run, over, then, sents, told, saidBy, endOf, Copy, Demand3, RecordsByArrival, linesBy, textBy, Alike, ListIsFixed}
+use Rattle.demand.specs.Engine.{Stepped, Applied, Taken, byStep, byApply, longsAfter, wordsAfter, sentOf, fillCount, outcomeBy, toldBy, Run, over, then, sents, told, saidBy, endOf, Copy, Demand3, RecordsByArrival, Asked, AllAsked, AveragesAreExact, linesBy, textBy, Alike, ListIsFixed}
 
 -- ---- the fill count of an outcome is the number of its records
 
@@ -87,11 +94,11 @@ first-written ys fs = first fs (drop (length (map storedFill fs)) ys)
 -- ---- one message
 
 module _ (longs words : List ℕ) where
+  count-is : (a : Stepped longs words) → fillCount (outcomeOf (a .answer .outcome)) ≡ a .answer .count
+  count-is a = ap fillCount (a .kept .outcome) ∙ step-count (stateOf longs words) (messageOf (a .message)) (placesIn longs words (a .list) (a .room)) ∙ sym (a .kept .count)
+
   told-stepped : (a : Stepped longs words) → toldBy (byStep a) ≡ answerTo (stateOf longs words) (sentOf (byStep a)) .fills
-  told-stepped a =
-      ap (recordsIn (a .list′))
-      (ap fillCount (a .kept .outcome) ∙ step-count (stateOf longs words) (messageOf (a .message)) (placesIn longs words (a .list) (a .room)) ∙ sym (a .kept .count))
-      ∙ a .kept .records
+  told-stepped a = ap (recordsIn (a .list′)) (count-is a) ∙ a .kept .records
 
   told-applied : (a : Applied longs words) → toldBy (byApply a) ≡ answerTo (stateOf longs words) (sentOf (byApply a)) .fills
   told-applied a =
@@ -110,6 +117,25 @@ module _ (longs words : List ℕ) where
   state-after : (a : Taken longs words) → stateOf (longsAfter a) (wordsAfter a) ≡ answerTo (stateOf longs words) (sentOf a) .state
   state-after (byStep a) = a .kept .state
   state-after (byApply a) = a .kept .state
+
+  -- ---- an average
+
+  few-records : (a : Stepped longs words) → a .answer .count ≤ leastRoom
+  unfolding RecordsFit
+  few-records a =
+      let few = records-fit (stateOf longs words) (messageOf (a .message)) (placesIn longs words (a .list) (a .room)) (rw (from-length (entryAt longs words) 0 (openCount words)) (omega arith)) in
+      omega (arith, a .kept .count, few .0)
+
+  asked-stepped : (a : Stepped longs words) → GoodAverages (toldBy (byStep a)) → Asked (byStep a)
+  asked-stepped a g i r h =
+      let n : ℕ = fillCount (outcomeOf (a .answer .outcome)) in
+      let c : n ≡ a .answer .count = count-is a in
+      let e : firstRecords (a .list′) n ≡ toldBy (byStep a) = records-known (a .list′) n (omega (arith, c, few-records a)) (omega (arith, c, a .kept .inside .1, a .kept .sized .2)) in
+      subst (Says i (toldBy (byStep a))) (sym (h ∙ ap (averageFor i) e)) (g .asked i)
+
+  asked-here : (a : Taken longs words) → GoodAverages (toldBy a) → Asked a
+  asked-here (byStep a) g = asked-stepped a g
+  asked-here (byApply a) g = tt
 
 -- ---- a list of messages
 
@@ -135,12 +161,12 @@ end-is (then longs words a run) = end-is run ∙ ap (λ (s : State). after s (se
 -- the lines of the rules' answers
 abbrev linesFor : ℕ → State → List Sent → List Line
 linesFor k s [] = closing s ∷ []
-linesFor k s (m ∷ ms) = fillLines (answerTo s m .fills) ++ (refusedLines k (answerTo s m .outcome) ++ linesFor (k + 1) (answerTo s m .state) ms)
+linesFor k s (m ∷ ms) = recordLines (answerTo s m .fills) ++ (refusedLines k (answerTo s m .outcome) ++ linesFor (k + 1) (answerTo s m .state) ms)
 
 lines-are : {longs words : List ℕ} (k : ℕ) (run : Run longs words) → linesBy k run ≡ linesFor k (stateOf longs words) (sents run)
 lines-are k (over longs words) = refl
 lines-are k (then longs words a run) =
-    ap₂ (λ (x y : List Line). x ++ y) (ap fillLines (told-here longs words a))
+    ap₂ (λ (x y : List Line). x ++ y) (ap recordLines (told-here longs words a))
     (ap₂ (λ (x y : List Line). x ++ y) (ap (refusedLines k) (said-here longs words a))
     (lines-are (k + 1) run ∙ ap (λ (s : State). linesFor (k + 1) s (sents run)) (state-after longs words a)))
 
@@ -150,7 +176,7 @@ unfolding linesFrom
 lines-from k s [] = refl
 lines-from k s (m ∷ ms) =
     let a : Answer = answerTo s (record { message = m; room = leastRoom }) in
-    ap (λ (l : List Line). fillLines (a .fills) ++ (refusedLines k (a .outcome) ++ l)) (lines-from (k + 1) (a .state) ms)
+    ap (λ (l : List Line). recordLines (a .fills) ++ (refusedLines k (a .outcome) ++ l)) (lines-from (k + 1) (a .state) ms)
 
 -- the state of an accepted opening is the rules'
 opening-is : (longs words : List ℕ) (o : S.Strategy) (r : ℕ) (longs′ words′ : List ℕ) → Opens longs words o r longs′ words′ → r ≡ 0 → opening o ≡ started (stateOf longs′ words′)
@@ -194,6 +220,16 @@ module _ (o : Opening) (c : Copy o) where
 pub demand-3 : Demand3
 unfolding Demand3 Demand3OfRules
 demand-3 o c = of-rules o c Good (demand-3-of-rules (openingOf o))
+
+all-asked : {longs words : List ℕ} (run : Run longs words) → All GoodAverages (told run) → AllAsked run
+all-asked (over longs words) g = tt
+all-asked (then longs words a run) g = (asked-here longs words a (g .0), all-asked run (g .1))
+
+pub averages-are-exact : AveragesAreExact
+unfolding AveragesAreExact AveragesAreExactOfRules
+averages-are-exact o c =
+    let g : All GoodAverages (told (c .run)) = of-rules o c (λ s ms rss. All GoodAverages rss) (averages-are-exact-of-rules .1 (openingOf o)) in
+    (g, all-asked (c .run) g)
 
 pub records-by-arrival : RecordsByArrival
 unfolding RecordsByArrival RecordsByArrivalOfRules

@@ -1,17 +1,19 @@
--- Demand 3 and M-101 about the engine: claims about an opening and a list of messages, each taken in place by `step` or by `apply`.
+-- Demand 3, M-101 and M-102 about the engine: claims about an opening and a list of messages, each taken in place by `step` or by `apply`.
 use mathlib.Core.Path.{_≡_}
 use mathlib.Core.List.{List, [], _∷_, _++_, map}
 use Prim.Native.Nat.{ℕ, _+_}
 use lib.ListN.{length, take}
+use Rattle.rules.specs.Basics.{All}
 use Rattle.rules.specs.Messages as M
 use Rattle.rules.specs.Outcome as O
 use Rattle.rules.specs.Turn as U
 use Rattle.rules.specs.State.{State}
 use Rattle.rules.specs.Run.{Sent, startOf}
 use Rattle.rules.specs.Tape.{reads, tapeOf}
-use Rattle.rules.specs.Print.{Line, titleLine, fillLines, refusedLines, closing}
+use Rattle.rules.specs.Print.{Line, titleLine, recordLines, refusedLines, closing}
 use Rattle.rules.specs.Demand.{Good}
 use Rattle.rules.specs.Arrival.{noArrivals, AllStand}
+use Rattle.rules.specs.Average.{Says, GoodAverages}
 use Rattle.types.specs.declared.Opening.{Opening}
 use Rattle.types.specs.declared.Message.{Message}
 use Rattle.types.specs.declared.Fill.{Fill}
@@ -22,6 +24,8 @@ use Rattle.opening.specs.Opens.{Opens}
 use Rattle.engine.specs.declared.Answer.{Answer}
 use Rattle.engine.specs.Steps.{recordsIn, placesIn, IsStep}
 use Rattle.fills.specs.Fills.{IsApplied}
+use Rattle.average.specs.declared.Average.{Average}
+use Rattle.average.specs.Parts.{averageOf, IsAverage}
 use Rattle.text.specs.Text.{linesText}
 use Rattle.session.specs.Lines.{sent, tapeText}
 
@@ -130,12 +134,25 @@ Demand3 = (o : Opening) (c : Copy o) → Good (startOf (openingOf o)) (sents (c 
 unfoldable pub RecordsByArrival : Type 0
 RecordsByArrival = (o : Opening) (c : Copy o) → AllStand noArrivals (startOf (openingOf o)) (sents (c .run)) (told (c .run))
 
+-- what any order is told by `average_of`, asked with the list as `step` left it and the fills that the outcome counts
+abbrev pub Asked : {longs words : List ℕ} → Taken longs words → Type 0
+Asked (byStep a) = (i : ℕ) (r : Average) → IsAverage (a .list′) (fillCount (outcomeOf (a .answer .outcome))) i r → Says i (toldBy (byStep a)) (averageOf r)
+Asked (byApply a) = Unit {0}
+
+abbrev pub AllAsked : {longs words : List ℕ} → Run longs words → Type 0
+AllAsked (over longs words) = Unit {0}
+AllAsked (then longs words a run) = Asked a × AllAsked run
+
+-- M-102: in every answer the averages of the engine's records are exact, and so is the one that an order is told
+unfoldable pub AveragesAreExact : Type 0
+AveragesAreExact = (o : Opening) (c : Copy o) → All GoodAverages (told (c .run)) × AllAsked (c .run)
+
 -- ---- what tapeprint writes of what a copy answers
 
 -- the lines of each answer, from tape position k on, and what is open at the end
 abbrev pub linesBy : {longs words : List ℕ} → ℕ → Run longs words → List Line
 linesBy k (over longs words) = closing (stateOf longs words) ∷ []
-linesBy k (then longs words a run) = fillLines (toldBy a) ++ (refusedLines k (outcomeBy a) ++ linesBy (k + 1) run)
+linesBy k (then longs words a run) = recordLines (toldBy a) ++ (refusedLines k (outcomeBy a) ++ linesBy (k + 1) run)
 
 -- their bytes, behind the title's
 abbrev pub textBy : {longs words : List ℕ} → Run longs words → List ℕ

@@ -2,28 +2,29 @@
 use mathlib.Core.Path.{_≡_, refl, ap, subst, _∙_}
 use mathlib.Core.Bool.{true, false}
 use mathlib.Core.List.{List, [], _++_}
-use Prim.Native.Nat.{ℕ, _*_, _≤_}
+use Prim.Native.Nat.{ℕ, _*_, _≤_, min}
 use native.Mathlib.Omega.{arith}
 use lib.ListN.{length, length-append}
 use Rattle.rules.specs.Outcome.{Refused}
 use Rattle.rules.specs.Refusals.{leastRoom}
 use Rattle.rules.specs.Messages.{Message}
 use Rattle.rules.specs.State.{State}
-use Rattle.rules.specs.Print.{fillLines}
+use Rattle.rules.specs.Print.{recordLines}
 use Rattle.rules.specs.Tape.{Fields, fieldsOf, isKind, messageFrom}
-use Rattle.types.specs.View.{from, outcomeOf}
+use Rattle.types.specs.View.{outcomeOf}
 use Rattle.types.proofs.TableLaws.{from-end}
 use Rattle.state.specs.Layout.{Sized}
 use Rattle.state.specs.View.{stateOf}
-use Rattle.records.specs.Records.{width, recordIn, recordAt}
+use Rattle.records.specs.Records.{width, recordIn}
 use Rattle.engine.specs.declared.Answer.{Answer}
 use Rattle.engine.specs.Steps.{recordsIn, placesIn, IsStep}
 use Rattle.engine.proofs.StepLaws.{all-places}
+use Rattle.average.specs.Sums.{firstRecords}
 use Rattle.text.specs.Text.{linesText}
 use Rattle.text.specs.Answers.{outcomeText}
 use Rattle.text.specs.Outputs.{mostLine, Puts}
 use Rattle.text.proofs.PutsLaws.{puts-then}
-use Rattle.text.proofs.FillLaws.{fills-known}
+use Rattle.text.proofs.FillLaws.{records-known}
 use Rattle.feed.specs.Replies.{answerOf, answerTo, IsAnswer, IsTold}
 
 module _ (longs words list : List ℕ) (f : Fields) (room : ℕ) (r : Answer) where
@@ -65,17 +66,17 @@ same-answer longs words list f g room longs′ words′ list′ r e a = subst (�
 
 pub record-told : (l w list p lent : List ℕ) (at : ℕ) (l′ w′ list′ mid : List ℕ) (end : ℕ) (out : List ℕ) (r : ℕ) (a : Answer) → Sized l w → leastRoom * width ≤ length list → IsAnswer l w list (fieldsOf p) leastRoom l′ w′ list′ a
     → Puts (outcomeText (outcomeOf (a .outcome))) lent at end mid × (length (outcomeText (outcomeOf (a .outcome))) ≤ mostLine)
-    → Puts (linesText (fillLines (from (recordAt list′) 0 (a .count)))) mid end r out × (length (linesText (fillLines (from (recordAt list′) 0 (a .count)))) ≤ mostLine * a .count)
+    → Puts (linesText (recordLines (firstRecords list′ (a .count)))) mid end r out × (length (linesText (recordLines (firstRecords list′ (a .count)))) ≤ 2 * mostLine * min (a .count) leastRoom)
     → IsTold l w list p lent at l′ w′ list′ out r
 record-told l w list p lent at l′ w′ list′ mid end out r a z h t o f =
     let s : State = stateOf l w in
     let e : placesIn l w list leastRoom ≡ leastRoom = all-places l w list z h in
     let n : a .count ≤ leastRoom = t .inside .0 in
     let first : List ℕ = outcomeText (outcomeOf (a .outcome)) in
-    let rest : List ℕ = linesText (fillLines (from (recordAt list′) 0 (a .count))) in
+    let rest : List ℕ = linesText (recordLines (firstRecords list′ (a .count))) in
     let known : outcomeOf (a .outcome) ≡ answerTo s p leastRoom .outcome = t .outcome ∙ ap (λ (n : ℕ). answerTo s p n .outcome) e in
-    let fills : from (recordAt list′) 0 (a .count) ≡ answerTo s p leastRoom .fills = fills-known list′ (a .count) (omega (arith, t .sized .2, t .inside .1)) ∙ t .records ∙ ap (λ (n : ℕ). answerTo s p n .fills) e in
-    let bytes : first ++ rest ≡ outcomeText (answerTo s p leastRoom .outcome) ++ linesText (fillLines (answerTo s p leastRoom .fills)) = (λ i. outcomeText (known i) ++ linesText (fillLines (fills i))) in
+    let fills : firstRecords list′ (a .count) ≡ answerTo s p leastRoom .fills = records-known list′ (a .count) (t .inside .0) (omega (arith, t .sized .2, t .inside .1)) ∙ t .records ∙ ap (λ (n : ℕ). answerTo s p n .fills) e in
+    let bytes : first ++ rest ≡ outcomeText (answerTo s p leastRoom .outcome) ++ linesText (recordLines (answerTo s p leastRoom .fills)) = (λ i. outcomeText (known i) ++ linesText (recordLines (fills i))) in
     let size = length-append first rest in
     record {
       puts = subst (λ (x : List ℕ). Puts x lent at r out) bytes (puts-then first rest lent at mid end r out (o .0) (f .0));

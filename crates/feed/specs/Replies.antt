@@ -9,7 +9,7 @@ use Rattle.rules.specs.State.{State}
 use Rattle.rules.specs.Refusals.{leastRoom, refusal}
 use Rattle.rules.specs.Step as R
 use Rattle.rules.specs.Tape.{messageBytes, Fields, fieldsOf, isKind, messageFrom}
-use Rattle.rules.specs.Print.{fillLines}
+use Rattle.rules.specs.Print.{recordLines}
 use Rattle.types.specs.View.{outcomeOf}
 use Rattle.state.specs.View.{stateOf}
 use Rattle.state.specs.Lent.{Lent}
@@ -45,9 +45,9 @@ numberIn longs words list f room = numberOf (stateOf longs words) f (placesIn lo
 
 -- ---- its bytes
 
--- the bytes of an answer: the outcome's line, and then the records'
+-- the bytes of an answer: the outcome's line, and then those of the records and their averages
 abbrev pub answerText : R.Answer → List ℕ
-answerText a = outcomeText (a .outcome) ++ linesText (fillLines (a .fills))
+answerText a = outcomeText (a .outcome) ++ linesText (recordLines (a .fills))
 
 -- ---- records one after another, each with a fill list of 2,000 places
 
@@ -58,9 +58,9 @@ afterRecord s p = answerTo s p leastRoom .state
 abbrev pub replyText : State → List ℕ → List ℕ
 replyText s p = answerText (answerTo s p leastRoom)
 
--- the bytes of an answer at most: 2,001 lines
+-- the bytes of an answer at most: 4,001 lines
 abbrev pub mostReply : ℕ
-mostReply = 256128
+mostReply = 512128
 
 -- the state after some records, each answered from the state that the one before left, and the bytes of their answers
 abbrev pub afterRecords : State → List (List ℕ) → State

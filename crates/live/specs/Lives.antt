@@ -21,9 +21,9 @@ use Rattle.live.specs.declared.Burst.{Burst}
 use Rattle.live.specs.declared.Round.{Round}
 use Rattle.live.specs.declared.Total.{Total}
 
--- the slices of a state, a list of 2,000 places, and a page that has room for half a page and an answer
+-- the slices of a state, a list of 2,000 places, and a page that has room for an answer when it is full
 abbrev pub Fits : List ℕ → List ℕ → List ℕ → List ℕ → Type 0
-Fits longs words list page = Sized longs words × (leastRoom * width ≤ length list) × (length page ≡ 512128)
+Fits longs words list page = Sized longs words × (leastRoom * width ≤ length list) × (length page ≡ 640128)
 
 -- ---- one read
 

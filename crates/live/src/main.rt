@@ -27,8 +27,8 @@ const LEGS: usize = Opening::MOST_LEGS;
 
 const NUMBERS: usize = Record::NUMBERS * Fill::LEAST_ROOM;
 
-// A page has room for half a page, and then for an answer: 2,001 lines of at most 128 bytes.
-const HALF: usize = 256_000;
+// A page is full behind so many bytes, and has room for an answer then: 4,001 lines of at most 128 bytes.
+const FULL: usize = 128_000;
 
 // The answers to the whole records of an input: how many were given, how many bytes they have, and whether the system took them.
 struct Burst {
@@ -57,10 +57,10 @@ impl Total {
 }
 
 // An empty page.
-fn blank_page() -> [u8; 512_128]
-    ensures { λ r. ⌜ 512128 ≡ length r ⌝ }
+fn blank_page() -> [u8; 640_128]
+    ensures { λ r. ⌜ 640128 ≡ length r ⌝ }
 {
-    [0; 512_128]
+    [0; 640_128]
 }
 
 // Room for 1,820 records.
@@ -139,7 +139,7 @@ fn read_behind(input: &mut [u8], left: usize) -> usize
     read_some(&mut input[left..])
 }
 
-// The whole records of an input, answered through a page, which is handed to the system when it is half full and behind the last record.
+// The whole records of an input, answered through a page, which is handed to the system when it is full and behind the last record.
 fn answer_all(
     longs: &mut [u64],
     words: &mut [u32],
@@ -154,7 +154,7 @@ fn answer_all(
     let mut p = Cursor { position: 0, at: 0 };
     let mut bytes: u64 = 0;
     while p.position < count {
-        p = feed::run(longs, words, list, page, input, p, HALF);
+        p = feed::run(longs, words, list, page, input, p, FULL);
         let end = p.at;
         let h = output::hand_over(&page[..end], bytes);
         bytes = h.bytes;

@@ -1,4 +1,4 @@
-// Document 01, "Tape": what tapeprint prints, through a page.
+// Document 01, "Tape", and M-102: what tapeprint prints, through a page.
 ghost use mathlib.Core.Path.{_≡_};
 ghost use Prim.Native.Nat.{_+_, _*_, _≤_};
 ghost use lib.ListN.{length, drop};
@@ -20,14 +20,14 @@ use types::Fill;
 // The numbers of 2,000 fill records.
 const NUMBERS: usize = Record::NUMBERS * Fill::LEAST_ROOM;
 
-// A page has room for half a page, and then for a message: 2,000 records of at most 128 bytes.
-const HALF: usize = 256_000;
+// A page is full behind so many bytes, and has room for a message then: 2,000 records and as many averages, of at most 128 bytes each.
+const FULL: usize = 128_000;
 
 // An empty page.
-fn blank_page() -> [u8; 512_000]
-    ensures { λ r. ⌜ 512000 ≡ length r ⌝ }
+fn blank_page() -> [u8; 640_000]
+    ensures { λ r. ⌜ 640000 ≡ length r ⌝ }
 {
-    [0; 512_000]
+    [0; 640_000]
 }
 
 // The title, the messages of a tape that is not turned back, and the last line; how many bytes they are.
@@ -39,7 +39,7 @@ fn print_messages(
     tape: &[u8],
     b: Start,
 ) -> u64
-    requires { ⌜ Sized (now longs) (now words) × (leastRoom * width ≤ length (now list)) × (length (now page) ≡ 512000) ⌝ }
+    requires { ⌜ Sized (now longs) (now words) × (leastRoom * width ≤ length (now list)) × (length (now page) ≡ 640000) ⌝ }
     ensures { λ r. ⌜ r ≡ counted (length (lineText titleLine) + length (linesText (linesFrom 1 (stateOf (now (longs .entry)) (now (words .entry))) (messagesFrom (b .count) (drop (b .at) (now (tape .entry))))))) ⌝ }
 {
     let count = b.count;
@@ -51,7 +51,7 @@ fn print_messages(
     };
     let mut total: u64 = 0;
     while p.position < count {
-        p = session::run(longs, words, list, page, tape, count, p, HALF);
+        p = session::run(longs, words, list, page, tape, count, p, FULL);
         let end = p.at;
         let h = output::hand_over(&page[..end], total);
         total = h.bytes;

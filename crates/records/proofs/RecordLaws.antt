@@ -1,17 +1,20 @@
 -- Records behind records: none, one, and one list after another.
-use mathlib.Core.Path.{_≡_, refl, ap₂, sym, _∙_}
-use mathlib.Core.Bool.{false}
+use mathlib.Core.Path.{_≡_, refl, ap, ap₂, sym, _∙_}
+use mathlib.Core.Bool.{Bool, true, false}
 use mathlib.Core.List.{List, [], _∷_, _++_}
-use Prim.Native.Nat.{ℕ, zero, suc, _+_, _-_, _*_, _≤_, _<_}
+use Prim.Native.Nat.{ℕ, zero, suc, _+_, _-_, _*_, _/_, _≤_, _<_, min}
 use native.Mathlib.Omega.{arith}
 use borrow.Author.Tests.{ne-eqb}
-use lib.Dec.{eqb}
+use lib.Dec.{eqb, ltb}
 use lib.ListN.{length, getD, set, length-set, length-append}
 use lib.Seq.{getD-set-same, getD-set-other}
+use Rattle.rules.specs.Basics.{pick}
+use Rattle.rules.specs.Prices.{cents, biased}
 use Rattle.rules.specs.Turn.{entry, Fill}
+use Rattle.rules.proofs.SignedLaws.{cents-biased}
 use Rattle.types.proofs.TableLaws.{from-cons, from-end}
 use Rattle.state.proofs.TableLaws.{from-same, from-join}
-use Rattle.records.specs.Records.{narrow, contraFrom, recordFrom, width, recordIn, Adds}
+use Rattle.records.specs.Records.{narrow, mostGiven, contraFrom, recordFrom, width, recordIn, recordAt, numberAt, Adds}
 
 -- ---- numbers stored one after another, from place b + k on
 
@@ -118,3 +121,28 @@ contra-back id h =
     let z : eqb (id + 1) 0 ≡ false = ne-eqb (id + 1) 0 (λ e. omega arith) in
     let w : narrow (id + 1 - 1) ≡ id = omega arith in
     rw (z, w)
+
+-- ---- the numbers of a record
+
+pick-at : {A B : Type 0} (f : A → B) (b : Bool) (x y : A) → f (pick b x y) ≡ pick b (f x) (f y)
+pick-at f true x y = refl
+pick-at f false x y = refl
+
+-- a field of the record at a place, by the number that it is made of
+field-at : {A : Type 0} (f : ℕ → A) (field : Fill → A) (l : List ℕ) (j k : ℕ) → field (recordIn l j) ≡ f (getD l (j * width + k) 0) → field (recordFrom 0 0 0 0 0 0) ≡ f 0 → f (numberAt l j k) ≡ field (recordAt l j)
+field-at f field l j k p q =
+    let b : Bool = ltb j (length l / width) in
+    pick-at f b (getD l (j * width + k) 0) 0 ∙ sym (ap₂ (pick b) p q) ∙ sym (pick-at field b (recordIn l j) (recordFrom 0 0 0 0 0 0))
+
+pub order-known : (l : List ℕ) (j : ℕ) → narrow (numberAt l j 1) ≡ recordAt l j .order
+order-known l j = field-at narrow (λ f. f .order) l j 1 refl refl
+
+pub units-known : (l : List ℕ) (j : ℕ) → narrow (numberAt l j 5) ≡ recordAt l j .units
+units-known l j = field-at narrow (λ f. f .units) l j 5 refl refl
+
+-- its price in cents, of a biased one that is not above the greatest
+pub cents-known : (l : List ℕ) (j : ℕ) → cents (min (numberAt l j 4) mostGiven) ≡ recordAt l j .price
+cents-known l j = field-at (λ p. cents (min p mostGiven)) (λ f. f .price) l j 4 refl refl
+
+pub price-known : (l : List ℕ) (j : ℕ) → min (numberAt l j 4) mostGiven ≡ biased (recordAt l j .price)
+price-known l j = sym (cents-biased (min (numberAt l j 4) mostGiven)) ∙ ap biased (cents-known l j)

@@ -45,6 +45,10 @@ recordIn l j =
 abbrev pub recordAt : List ℕ → ℕ → Fill
 recordAt l j = pick (ltb j (length l / width)) (recordIn l j) (recordFrom 0 0 0 0 0 0)
 
+-- one number of the record at a place of a list, 0 where the list has no such place
+abbrev pub numberAt : List ℕ → ℕ → ℕ → ℕ
+numberAt l j k = pick (ltb j (length l / width)) (getD l (j * width + k) 0) 0
+
 -- some records put behind the first `at` of a list, which has r then: they are there if there is room for them all; before and behind them nothing changes
 pub record Adds (old : List ℕ) (at : ℕ) (new : List ℕ) (r : ℕ) (fs : List Fill) : Type 0 where
   pub sized : length new ≡ length old

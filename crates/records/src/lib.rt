@@ -1,9 +1,11 @@
 // The fill records of a message in a lent list of numbers, as they come; and one of them read back.
 ghost use mathlib.Core.Path.{_≡_};
 ghost use mathlib.Core.List.{[], _∷_};
+ghost use Prim.Native.Nat.{_<_};
+ghost use Rattle.rules.specs.Prices.{biased};
 ghost use Rattle.rules.specs.Turn.{entry};
 ghost use Rattle.types.specs.View.{rankOf, contraOf, fillOf};
-ghost use Rattle.records.specs.Records.{narrow, rankFrom, contraFrom, recordFrom, recordAt, Writes};
+ghost use Rattle.records.specs.Records.{narrow, rankFrom, contraFrom, recordFrom, width, recordAt, numberAt, Writes};
 use types::Contra;
 use types::Fill;
 use types::Rank;
@@ -127,4 +129,37 @@ pub fn fill_at(list: &[u64], j: usize) -> Fill
         );
     }
     fill_from(0, 0, 0, 0, 0, 0)
+}
+
+// ---- one number of a record
+
+fn number_at(list: &[u64], j: usize, k: usize) -> u64
+    requires { ⌜ k < width ⌝ }
+    ensures { λ r. ⌜ r ≡ numberAt (now (list .entry)) j k ⌝ }
+{
+    if j < list.len() / 6 {
+        return list[j * 6 + k];
+    }
+    0
+}
+
+// The order that it names.
+pub fn order_at(list: &[u64], j: usize) -> u32
+    ensures { λ r. ⌜ r ≡ recordAt (now (list .entry)) j .order ⌝ }
+{
+    narrowed(number_at(list, j, 1))
+}
+
+// Its price, biased.
+pub fn price_at(list: &[u64], j: usize) -> u64
+    ensures { λ r. ⌜ r ≡ biased (recordAt (now (list .entry)) j .price) ⌝ }
+{
+    number::lesser_long(number_at(list, j, 4), Fill::MOST_BIASED)
+}
+
+// Its units.
+pub fn units_at(list: &[u64], j: usize) -> u32
+    ensures { λ r. ⌜ r ≡ recordAt (now (list .entry)) j .units ⌝ }
+{
+    narrowed(number_at(list, j, 5))
 }

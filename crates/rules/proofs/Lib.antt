@@ -26,6 +26,7 @@ pub mod CrossLaws
 pub mod PassLaws
 pub mod RunLaws
 pub mod ArrivalLaws
+pub mod AverageLaws
 pub mod ReachedLaws
 pub mod CountLaws
 pub mod BoundLaws

@@ -62,7 +62,7 @@ step-fine s m room v =
       | no n ↦ rw (ne-eqb (refusal s m room) 0 n) (record { inv = v; told = refl })
     ]
 
-run-good : (s : State) (ms : List Sent) → Inv s → Good s ms (map (λ a. a .fills) (answers s ms))
+pub run-good : (s : State) (ms : List Sent) → Inv s → Good s ms (map (λ a. a .fills) (answers s ms))
 unfolding answers
 run-good s [] v = tt
 run-good s (m ∷ ms) v =

@@ -15,12 +15,13 @@ use Rattle.rules.specs.Outcome.{byTime, byOrder, byLegs, Outcome, Noted,
 use Rattle.rules.specs.Step.{Answer}
 use Rattle.rules.specs.Run.{startOf, Sent, answerTo, answers, after}
 use Rattle.rules.specs.Tape.{tapeRefusal, Tape, reads, tapeOf}
-use Rattle.rules.specs.Print.{Line, titleLine, fillLine, refusedLine, lastLine, linesOf}
+use Rattle.rules.specs.Average.{Average, none, averageFor, OrderAverage, averages}
+use Rattle.rules.specs.Print.{Line, titleLine, fillLine, averageLine, refusedLine, lastLine, linesOf}
 use Rattle.rules.specs.Cases.{symbolOf, pair, spread, sent, quote, nbbo, terms, buys, asks, sells, begin, market}
 
 -- ---- rows
 
--- what a row asks: the answer to a message after others, the outcomes of messages after others, the numbers of openings and of tapes, what a tape means and what it prints
+-- what a row asks: the answer to a message after others, the outcomes of messages after others, the numbers of openings and of tapes, what a tape means and what it prints, the averages of a message after others and that of one order
 pub data Asked : Type 0 where
   answerAfter : Strategy → List Sent → Sent → Asked
   outcomesAfter : Strategy → List Sent → List Sent → Asked
@@ -28,14 +29,18 @@ pub data Asked : Type 0 where
   tapes : List (List ℕ) → Asked
   readingOf : List ℕ → Asked
   printOf : List ℕ → Asked
+  averagesAfter : Strategy → List Sent → Sent → Asked
+  averageAfter : Strategy → List Sent → Sent → ℕ → Asked
 
--- and what is expected: an outcome, its records, and how many orders and responses are open after it; outcomes; numbers, 0 for a pass; a tape read; lines
+-- and what is expected: an outcome, its records, and how many orders and responses are open after it; outcomes; numbers, 0 for a pass; a tape read; lines; averages; one of them
 pub data Expected : Type 0 where
   told : Outcome → List Fill → ℕ → ℕ → Expected
   outcomes : List Outcome → Expected
   numbers : List ℕ → Expected
   reading : Tape → Expected
   lines : List Line → Expected
+  averaged : List OrderAverage → Expected
+  averageIs : Average → Expected
 
 -- an answer, told
 abbrev pub toldOf : Answer → Expected
@@ -49,6 +54,8 @@ said (openings os) = numbers (map openingRefusal os)
 said (tapes ts) = numbers (map tapeRefusal ts)
 said (readingOf t) = reading (tapeOf t)
 said (printOf t) = lines (linesOf t)
+said (averagesAfter o ms m) = averaged (averages (answerTo (after (startOf o) ms) m .fills))
+said (averageAfter o ms m i) = averageIs (averageFor i (answerTo (after (startOf o) ms) m .fills))
 
 -- a row of the table: its number, by which it is cited, and its two columns
 pub record Row : Type 0 where
@@ -172,6 +179,14 @@ answering (suc n) = asks 1 (100 + suc n) 1 (pos 200) 0 ∷ answering n
 -- a record: message, order, rank, contra, price, units
 abbrev pub took : ℕ → ℕ → Rank → Contra → ℕ → ℕ → Fill
 took n i r c p u = record { number = n; order = i; rank = r; contra = c; price = pos p; units = u }
+
+-- an order's average
+abbrev pub averageOf : ℕ → ℤ → ℕ → OrderAverage
+averageOf i q r = record { order = i; quotient = q; remainder = r }
+
+-- order 1 sells a unit at -3, order 2 one at -4
+abbrev pub negatives : List Sent
+negatives = sells 1 1 1 (negsuc 2) ∷ sells 1 2 1 (negsuc 3) ∷ []
 
 -- ---- tapes
 
@@ -477,7 +492,7 @@ tapeRows =
     ∷ national (record { leg = 3; bid = negsuc 7; ask = pos 9 }) ∷ order fullTerms true ∷ response fullTerms
     ∷ modify (record { side = B; id = 5; participant = 6; units = 7; price = negsuc 7 }) ∷ cancel 5 6 ∷ clock ∷ []))))
     -- "Own case"
-    ∷ row 70 (printOf ownCase) (lines (titleLine ∷ fillLine (took 4 8 L legs 100 10) ∷ fillLine (took 4 8 R (entry 7) 100 5) ∷ refusedLine 5 50 ∷ lastLine 1 0 ∷ []))
+    ∷ row 70 (printOf ownCase) (lines (titleLine ∷ fillLine (took 4 8 L legs 100 10) ∷ fillLine (took 4 8 R (entry 7) 100 5) ∷ averageLine (averageOf 8 (pos 100) 0) ∷ refusedLine 5 50 ∷ lastLine 1 0 ∷ []))
     ∷ []
 
 -- M-101, "Fill records in arrival order"
@@ -489,9 +504,23 @@ arrivalRows =
     (told (Ended byTime 3) (took 7 7 C (entry 24) 128 1 ∷ took 7 7 C (entry 22) 128 3 ∷ took 7 7 C (entry 23) 128 2 ∷ []) 1 0)
     ∷ []
 
+-- M-102, "Average price with its remainder"
+abbrev pub averageRows : List Row
+averageRows =
+    -- "A sum of -7 over 2 units is -4 remainder 1": a unit at -4 and one at -3
+    row 72 (averagesAfter spread negatives (buyer 1 7 2 (pos 0))) (averaged (averageOf 7 (negsuc 3) 1 ∷ []))
+    -- "over the records that name it as order": order 2 is only a contra there
+    ∷ row 73 (averageAfter spread negatives (buyer 1 7 2 (pos 0)) 2) (averageIs none)
+    -- "An order without fills in that message has no average"
+    ∷ row 74 (averageAfter spread negatives (buyer 1 7 2 (negsuc 9)) 7) (averageIs none)
+    -- "for each id in their order column, by first record": 7 before 5, which came later
+    ∷ row 75 (averagesAfter spread (beganAgainst 5 2 (pos 130) ++ (wishes B 5 3 (pos 130) ∷ asks 1 20 1 (pos 127) 0 ∷ [])) atDeadline)
+    (averaged (averageOf 7 (pos 128) 1 ∷ averageOf 5 (pos 130) 0 ∷ []))
+    ∷ []
+
 -- the table
 abbrev pub sentences : List Row
-sentences = seriesRows ++ priceRows ++ lifeRows ++ auctionRows ++ executionRows ++ turnedBackRows ++ tapeRows ++ arrivalRows
+sentences = seriesRows ++ priceRows ++ lifeRows ++ auctionRows ++ executionRows ++ turnedBackRows ++ tapeRows ++ arrivalRows ++ averageRows
 
 -- the rules answer as it says
 unfoldable pub SentencesHold : Type 0

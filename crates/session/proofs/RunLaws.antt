@@ -11,7 +11,7 @@ use Rattle.rules.specs.Refusals.{leastRoom}
 use Rattle.rules.specs.Step.{step}
 use Rattle.rules.specs.Run.{after}
 use Rattle.rules.specs.Tape.{messageBytes, messageOf, messagesFrom}
-use Rattle.rules.specs.Print.{Line, closing, fillLines, refusedLines, linesFrom}
+use Rattle.rules.specs.Print.{Line, closing, recordLines, refusedLines, linesFrom}
 use Rattle.text.specs.Text.{lineText, linesText}
 use Rattle.tape.specs.View.{offsetAfter}
 use Rattle.tape.proofs.PartLaws.{messages-next}
@@ -44,7 +44,7 @@ lines-told k s (m ∷ ms) ns =
     let a = step s m leastRoom in
     let z : k + suc (length ms) ≡ k + 1 + length ms = omega arith in
     rw z
-    (sym (append-assoc (fillLines (a .fills)) (refusedLines k (a .outcome)) (linesFrom (k + 1) (a .state) (ms ++ ns)))
+    (sym (append-assoc (recordLines (a .fills)) (refusedLines k (a .outcome)) (linesFrom (k + 1) (a .state) (ms ++ ns)))
     ∙ ap (λ (x : List Line). messageLines k s m ++ x) (lines-told (k + 1) (a .state) ms ns)
     ∙ sym (append-assoc (messageLines k s m) (toldLines (k + 1) (a .state) ms) (linesFrom (k + 1 + length ms) (after (a .state) (sent ms)) ns)))
 

@@ -13,7 +13,7 @@ use Rattle.rules.specs.Refusals.{leastRoom, refusal}
 use Rattle.rules.specs.Step.{step}
 use Rattle.rules.specs.Run.{opening, Sent, after}
 use Rattle.rules.specs.Tape.{headerOf, messagesFrom, tapeRefusal, strategyOf}
-use Rattle.rules.specs.Print.{Line, fillLines, refusedLines, linesOf}
+use Rattle.rules.specs.Print.{Line, recordLines, refusedLines, linesOf}
 use Rattle.state.specs.View.{stateOf}
 use Rattle.state.specs.Lent.{Lent}
 use Rattle.opening.specs.Opens.{openedBy}
@@ -29,9 +29,9 @@ use Rattle.session.specs.declared.Cursor.{Cursor}
 unfoldable pub tapeText : List ℕ → List ℕ
 tapeText t = linesText (linesOf t)
 
--- the lines of the message at tape position k: its records, or the refused line
+-- the lines of the message at tape position k: its records and their averages, or the refused line
 abbrev pub messageLines : ℕ → State → Message → List Line
-messageLines k s m = let a = step s m leastRoom in fillLines (a .fills) ++ refusedLines k (a .outcome)
+messageLines k s m = let a = step s m leastRoom in recordLines (a .fills) ++ refusedLines k (a .outcome)
 
 -- their bytes
 abbrev pub messageText : ℕ → State → Message → List ℕ
@@ -56,9 +56,9 @@ abbrev pub offsetBehind : List ℕ → ℕ → ℕ → ℕ
 offsetBehind t zero at = at
 offsetBehind t (suc n) at = offsetBehind t n (offsetAfter t at)
 
--- the bytes of a message, which has at most 2,000 records
+-- the bytes of a message, which has at most 2,000 records and as many averages
 abbrev pub mostText : ℕ
-mostText = 256000
+mostText = 512000
 
 -- ---- a tape begins
 

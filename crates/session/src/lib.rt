@@ -1,4 +1,4 @@
-// Document 01, "Tape": a tape's messages through the engine, and the bytes that each prints. The state stands in two lent slices, the records of a message in a lent list.
+// Document 01, "Tape", and M-102: a tape's messages through the engine, and the bytes that each prints. The state stands in two lent slices, the records of a message in a lent list.
 ghost use mathlib.Core.List.{List};
 ghost use Prim.Native.Nat.{ℕ, _*_, _≤_};
 ghost use lib.ListN.{length};
@@ -98,7 +98,7 @@ fn put_outcome(out: &mut [u8], at: usize, position: usize, o: Outcome) -> usize
     }
 }
 
-// A message at a tape position: its records, or the refused line.
+// A message at a tape position: its records and their averages, or the refused line.
 pub fn tell(
     longs: &mut [u64],
     words: &mut [u32],
@@ -113,7 +113,7 @@ pub fn tell(
 {
     let a = engine::step(longs, words, list, m, Fill::LEAST_ROOM);
     let outcome = a.outcome;
-    let behind = text::add_fills(list, a.count, out, at);
+    let behind = text::add_records(list, a.count, out, at);
     put_outcome(out, behind, position, outcome)
 }
 

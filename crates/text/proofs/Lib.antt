@@ -5,3 +5,4 @@ pub mod WroteLaws
 pub mod AnswerLaws
 pub mod PutsLaws
 pub mod FillLaws
+pub mod AverageLaws

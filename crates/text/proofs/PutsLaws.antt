@@ -1,7 +1,7 @@
 -- Bytes put into an output, one text after another.
 use mathlib.Core.Path.{_≡_, refl, ap, sym, _∙_, subst}
 use mathlib.Core.List.{List, [], _∷_, _++_, append-nil, append-assoc}
-use Prim.Native.Nat.{ℕ, _+_, _≤_, min}
+use Prim.Native.Nat.{ℕ, _+_, _*_, _≤_, min}
 use native.Mathlib.Decide.{decLt}
 use native.Mathlib.Omega.{arith}
 use lib.ListN.{length, length-append, take}
@@ -55,6 +55,25 @@ puts-from text lent at start r out e p = puts-then [] text lent at lent start r 
 -- one line alone
 pub one-line : (line : Line) (lent : List ℕ) (at r : ℕ) (out : List ℕ) (n : ℕ) → Puts (lineText line) lent at r out × (length (lineText line) ≤ n) → Puts (linesText (line ∷ [])) lent at r out × (length (linesText (line ∷ [])) ≤ n)
 one-line line lent at r out n p = rw (append-nil (lineText line)) p
+
+-- ---- at most a line for each of some things, one behind the other
+
+-- those of the first i are put
+pub record EachPut (first : ℕ → List ℕ) (i : ℕ) (lent : List ℕ) (start at : ℕ) (out : List ℕ) : Type 0 where
+  pub puts : Puts (first i) lent start at out
+  pub few : length (first i) ≤ mostLine * i
+
+module _ (first : ℕ → List ℕ) (lent : List ℕ) (start : ℕ) where
+  pub each-start : (at : ℕ) → first 0 ≡ [] → at ≡ min start (length lent) → EachPut first 0 lent start at lent
+  each-start at z e = record { puts = rw z (puts-none lent start at e); few = rw z (omega arith) }
+
+  pub each-next : (i at : ℕ) (out text : List ℕ) (end : ℕ) (new : List ℕ) → first (i + 1) ≡ first i ++ text → EachPut first i lent start at out → Puts text out at end new × (length text ≤ mostLine)
+      → EachPut first (i + 1) lent start end new
+  each-next i at out text end new z p q =
+      let n : length (first i ++ text) ≡ length (first i) + length text = length-append (first i) text in
+      let a = p .few in
+      let b = q .1 in
+      record { puts = rw z (puts-then (first i) text lent start out at end new (p .puts) (q .0)); few = rw z (omega (arith, n, a, b)) }
 
 -- ---- one text behind the other
 

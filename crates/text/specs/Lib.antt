@@ -2,5 +2,6 @@ pub mod Ascii
 pub mod Text
 pub mod Buffer
 pub mod OwnCase
+pub mod Averages
 pub mod Answers
 pub mod Outputs

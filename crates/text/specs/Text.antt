@@ -1,11 +1,12 @@
--- Document 01, "Tape": the bytes of a line of tapeprint's output.
+-- Document 01, "Tape", and M-102: the bytes of a line of tapeprint's output.
 use mathlib.Core.List.{List, [], _∷_, _++_}
 use Prim.Native.Nat.{ℕ, zero, suc, _+_, _/_, _%_}
 use lib.Dec.{ltb}
 use lib.IntN.{ℤ, pos, negsuc}
 use Rattle.rules.specs.Basics.{pick}
 use Rattle.rules.specs.Turn.{Rank, L, C, N, T, R, Contra, legs, entry, Fill}
-use Rattle.rules.specs.Print.{Line, titleLine, fillLine, refusedLine, lastLine}
+use Rattle.rules.specs.Average.{OrderAverage}
+use Rattle.rules.specs.Print.{Line, titleLine, fillLine, averageLine, refusedLine, lastLine}
 use Rattle.text.specs.Ascii.{ascii}
 
 -- the digit of a number below 10
@@ -50,10 +51,15 @@ fillText f =
     digits (f .number)
     ++ after (digits (f .order) ∷ (rankLetter (f .rank) ∷ []) ∷ digits (contraNumber (f .contra)) ∷ signedDigits (f .price) ∷ digits (f .units) ∷ [])
 
+-- "`average order quotient remainder`"
+abbrev pub averageText : OrderAverage → List ℕ
+averageText a = ascii "average" ++ after (digits (a .order) ∷ signedDigits (a .quotient) ∷ digits (a .remainder) ∷ [])
+
 -- the bytes of a line, its newline included
 abbrev pub lineText : Line → List ℕ
 lineText titleLine = ascii "number order rank contra price units" ++ after []
 lineText (fillLine f) = fillText f
+lineText (averageLine a) = averageText a
 lineText (refusedLine k n) = ascii "refused" ++ after (digits k ∷ digits n ∷ [])
 lineText (lastLine o a) = ascii "open" ++ after (digits o ∷ ascii "answers" ∷ digits a ∷ [])
 

@@ -1,4 +1,4 @@
-// The bytes of an output line, of tapeprint (document 01, "Tape") or of live, written at the start of a lent buffer; and lines put into an output.
+// The bytes of an output line, of tapeprint (document 01, "Tape", and M-102) or of live, written at the start of a lent buffer; and lines put into an output.
 ghost use mathlib.Core.Path.{_≡_};
 ghost use mathlib.Core.List.{[], _∷_, _++_};
 ghost use Prim.Native.Nat.{_+_, _*_, _<_, _≤_, min};
@@ -6,22 +6,27 @@ ghost use lib.IntN.{pos, natAbs};
 ghost use lib.ListN.{length, take};
 ghost use lib.Seq.{sets};
 ghost use lib.Signed.{ltZ};
-ghost use Rattle.rules.specs.Print.{titleLine, fillLine, refusedLine, lastLine, fillLines};
+ghost use Rattle.rules.specs.Average.{averagesOf, averages};
+ghost use Rattle.rules.specs.Print.{titleLine, fillLine, averageLine, refusedLine, lastLine, fillLines, averageLines, recordLines};
 ghost use Rattle.rules.specs.Outcome.{Ended};
+ghost use Rattle.rules.specs.Refusals.{leastRoom};
 ghost use Rattle.types.specs.View.{from, rankOf, contraOf, fillOf, causeOf, outcomeOf};
 ghost use Rattle.records.specs.Records.{recordAt};
 ghost use Rattle.text.specs.Text.{digit, digits, signedDigits, rankLetter, contraNumber, after};
 ghost use Rattle.text.specs.Buffer.{Wrote, Put, Printed};
 ghost use Rattle.text.specs.Answers.{outcomeText, openingText};
 ghost use Rattle.text.specs.Outputs.{mostLine, Puts, PutsLine, PutsLines};
+ghost use Rattle.average.specs.Sums.{firstRecords};
+ghost use Rattle.text.specs.Averages.{averagesAt};
 ghost use Rattle.text.specs.OwnCase.{OwnCaseText};
+use average::Average;
 use types::Cause;
 use types::Contra;
 use types::Fill;
 use types::Outcome;
 use types::Rank;
 
-// The own case's five lines are the bytes that document 01 shows.
+// The own case's lines are the bytes that document 01 shows, with the average line of M-102 behind the fills.
 pub fn own_case_text()
     ensures { λ _. ⌜ OwnCaseText ⌝ }
 {}
@@ -195,7 +200,7 @@ pub fn put_title(out: &mut [u8; 128]) -> usize
 }
 
 // A record.
-pub fn put_fill(out: &mut [u8; 128], f: Fill) -> usize
+fn put_fill(out: &mut [u8; 128], f: Fill) -> usize
     requires { ⌜ length (now out) ≡ 128 ⌝ }
     ensures { λ r. ⌜ Printed (fillLine (fillOf f)) (now (out .entry)) r (now (out .exit)) ⌝ }
 {
@@ -207,6 +212,18 @@ pub fn put_fill(out: &mut [u8; 128], f: Fill) -> usize
     let at = put_contra(out, at, contra);
     let at = put_signed(out, at, f.price);
     let at = put_next(out, at, f.units as u64);
+    put_byte(out, at, b'\n')
+}
+
+// An order's average.
+fn put_average(out: &mut [u8; 128], order: u32, quotient: i64, remainder: u64) -> usize
+    requires { ⌜ length (now out) ≡ 128 ⌝ }
+    ensures { λ r. ⌜ Printed (averageLine (record { order = order; quotient = quotient; remainder = remainder })) (now (out .entry)) r (now (out .exit)) ⌝ }
+{
+    let at = put_word(out, 0, b"average");
+    let at = put_next(out, at, order as u64);
+    let at = put_signed(out, at, quotient);
+    let at = put_next(out, at, remainder);
     put_byte(out, at, b'\n')
 }
 
@@ -306,7 +323,7 @@ fn add_fill(out: &mut [u8], at: usize, f: Fill) -> usize
 }
 
 // The first n records of a list.
-pub fn add_fills(list: &[u64], n: usize, out: &mut [u8], start: usize) -> usize
+fn add_fills(list: &[u64], n: usize, out: &mut [u8], start: usize) -> usize
     ensures { λ r. ⌜ PutsLines (fillLines (from (recordAt (now (list .entry))) 0 n)) (mostLine * n) out start r ⌝ }
 {
     let mut at = number::lesser_size(start, out.len());
@@ -316,4 +333,63 @@ pub fn add_fills(list: &[u64], n: usize, out: &mut [u8], start: usize) -> usize
         i += 1;
     }
     at
+}
+
+// ---- averages behind records
+
+// An order's average.
+fn add_average(out: &mut [u8], at: usize, order: u32, quotient: i64, remainder: u64) -> usize
+    ensures { λ r. ⌜ PutsLine (averageLine (record { order = order; quotient = quotient; remainder = remainder })) out at r ⌝ }
+{
+    let mut line = [0u8; 128];
+    let n = put_average(&mut line, order, quotient, remainder);
+    add(out, at, &line, n)
+}
+
+// That of an order over the first n records of a list, if it has one.
+fn add_order(list: &[u64], n: usize, order: u32, out: &mut [u8], at: usize) -> usize
+    ensures { λ r. ⌜ PutsLines (averageLines (averagesOf (firstRecords (now (list .entry)) n) (order ∷ []))) mostLine out at r ⌝ }
+{
+    match average::average_of(list, n, order) {
+        Average::None => number::lesser_size(at, out.len()),
+        Average::Exact(quotient, remainder) => add_average(out, at, order, quotient, remainder),
+    }
+}
+
+// That of the order of the record at a place, where it is the order's first.
+fn add_first(list: &[u64], n: usize, j: usize, out: &mut [u8], at: usize) -> usize
+    ensures { λ r. ⌜ PutsLines (averageLines (averagesAt (now (list .entry)) n j)) mostLine out at r ⌝ }
+{
+    if average::is_first(list, j) {
+        return add_order(list, n, records::order_at(list, j), out, at);
+    }
+    number::lesser_size(at, out.len())
+}
+
+// Those of the first n records of a list, by first record.
+fn add_averages(list: &[u64], n: usize, out: &mut [u8], start: usize) -> usize
+    ensures { λ r. ⌜ PutsLines (averageLines (averages (firstRecords (now (list .entry)) n))) (mostLine * min n leastRoom) out start r ⌝ }
+{
+    let count = number::lesser_size(n, Fill::LEAST_ROOM);
+    let mut at = number::lesser_size(start, out.len());
+    let mut i = 0;
+    while i < count {
+        at = add_first(list, n, i, out, at);
+        i += 1;
+    }
+    at
+}
+
+// ---- the records of a message
+
+// The first n records of a list, of which a message has at most 2,000, and their averages.
+pub fn add_records(list: &[u64], n: usize, out: &mut [u8], start: usize) -> usize
+    ensures { λ r. ⌜ PutsLines (recordLines (firstRecords (now (list .entry)) n)) (2 * mostLine * min n leastRoom) out start r ⌝ }
+{
+    if n == 0 {
+        return number::lesser_size(start, out.len());
+    }
+    let count = number::lesser_size(n, Fill::LEAST_ROOM);
+    let behind = add_fills(list, count, out, start);
+    add_averages(list, n, out, behind)
 }

@@ -3,9 +3,11 @@ use mathlib.Core.Path.{_≡_}
 use mathlib.Core.List.{List, []}
 use Prim.Native.Nat.{ℕ, _*_, _/_, _≤_}
 use lib.Dec.{eqb}
+use lib.IntN.{pos}
 use lib.ListN.{length, getD}
 use denote.Ref.{now}
 use Rattle.rules.specs.Basics.{pick}
+use Rattle.rules.specs.Average as A
 use Rattle.rules.specs.Outcome as O
 use Rattle.rules.specs.Outcome.{Cause, byTime, byOrder, byLegs, Noted, Placed, Begun, Joined, Ended, Refused}
 use Rattle.rules.specs.Step as R
@@ -16,6 +18,7 @@ use Rattle.records.specs.Records.{width}
 use Rattle.engine.specs.Steps.{recordsIn}
 use Rattle.feed.specs.Replies.{answerOf}
 use Rattle.tumghavi.specs.declared.Outcome.{Outcome}
+use Rattle.tumghavi.specs.declared.Average.{Average}
 
 -- ---- an outcome in numbers
 
@@ -37,6 +40,13 @@ numbersOf (Begun t) = numbers 3 0 0 0 0 t
 numbersOf (Joined u) = numbers 4 0 0 0 u 0
 numbersOf (Ended c n) = numbers 5 (causeNumber c) 0 n 0 0
 numbersOf (Refused k) = numbers 6 0 k 0 0 0
+
+-- ---- an average in numbers
+
+-- kind, quotient and remainder, 0 for each that there is not
+abbrev pub averageNumbers : A.Average → Average
+averageNumbers A.none = record { kind = 1; quotient = pos 0; remainder = 0 }
+averageNumbers (A.exact q r) = record { kind = 2; quotient = q; remainder = r }
 
 -- ---- what is told
 

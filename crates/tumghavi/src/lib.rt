@@ -1,4 +1,4 @@
-// For hosts in C and Rust: a copy of the engine in two arrays that the host keeps, and a tape's output and its form as bytes.
+// For hosts in C and Rust: a copy of the engine in two arrays that the host keeps, the average price of an order, and a tape's output and its form as bytes.
 ghost use mathlib.Core.Path.{_≡_};
 ghost use Prim.Native.Nat.{min};
 ghost use lib.ListN.{length, drop};
@@ -6,18 +6,20 @@ ghost use lib.Seq.{sets};
 ghost use Rattle.rules.specs.Book.{count, isResponse};
 ghost use Rattle.rules.specs.Refusals.{isOrder};
 ghost use Rattle.rules.specs.Tape.{messagesFrom};
+ghost use Rattle.rules.specs.Average.{averageFor};
 ghost use Rattle.rules.specs.Print.{linesFrom};
 ghost use Rattle.types.specs.View.{causeOf, outcomeOf, openingOf};
 ghost use Rattle.state.specs.Layout.{Sized};
 ghost use Rattle.state.specs.View.{stateOf};
 ghost use Rattle.state.specs.Lent.{Tells};
 ghost use Rattle.text.specs.Text.{linesText};
+ghost use Rattle.average.specs.Sums.{firstRecords};
 ghost use Rattle.tape.specs.View.{fieldsOf};
 ghost use Rattle.opening.specs.Opens.{IsOpened};
 ghost use Rattle.text.specs.Outputs.{Puts};
 ghost use Rattle.session.specs.Lines.{tapeText};
 ghost use Rattle.form.specs.Writes.{Formed};
-ghost use Rattle.tumghavi.specs.Told.{causeNumber, numbers, numbersOf, recordOf, Told};
+ghost use Rattle.tumghavi.specs.Told.{causeNumber, numbers, numbersOf, averageNumbers, recordOf, Told};
 use book::Counts;
 use form::Reply;
 use records::Record;
@@ -105,6 +107,41 @@ fn numbers_of(o: types::Outcome) -> Outcome
         types::Outcome::Joined(u) => numbers(Outcome::JOINED, 0, 0, 0, u, 0),
         types::Outcome::Ended(c, n) => numbers(Outcome::ENDED, cause_number(c), 0, n, 0, 0),
         types::Outcome::Refused(k) => numbers(Outcome::REFUSED, 0, k, 0, 0, 0),
+    }
+}
+
+// ---- an average in numbers
+
+// The average price of an order: kind, quotient and remainder. Where there is none both are 0.
+#[repr(C)]
+pub struct Average {
+    pub kind: u32,
+    pub quotient: i64,
+    pub remainder: u64,
+}
+
+impl Average {
+    pub const NONE: u32 = 1;
+
+    pub const EXACT: u32 = 2;
+}
+
+// That of an order over as many records at the start of a list as an outcome counts; of more than 2,000, which no message has, over the first 2,000.
+#[no_mangle]
+pub extern "C" fn tumghavi_average_in(list: &[u64], fills: usize, order: u32) -> Average
+    ensures { λ r. ⌜ r ≡ averageNumbers (averageFor order (firstRecords (now (list .entry)) fills)) ⌝ }
+{
+    match average::average_of(list, fills, order) {
+        average::Average::None => Average {
+            kind: Average::NONE,
+            quotient: 0,
+            remainder: 0,
+        },
+        average::Average::Exact(quotient, remainder) => Average {
+            kind: Average::EXACT,
+            quotient,
+            remainder,
+        },
     }
 }
 

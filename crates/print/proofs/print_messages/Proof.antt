@@ -19,8 +19,8 @@ Inv-loop longs₀ words₀ list₀ page₀ tape count at p₀ total₀ longs wor
     × (length words ≡ length words₀)
     × (length list ≡ length list₀)
     × (length page ≡ length page₀)
-    × (length page ≡ 512000)
-    × (p .at ≤ 256000)
+    × (length page ≡ 640000)
+    × (p .at ≤ 128000)
     × (counted (total + (p .at + length (leftText tape count (p .position) (p .next) (stateOf longs words)))) ≡ counted (p₀ .at + length (leftText tape count (p₀ .position) (p₀ .next) (stateOf longs₀ words₀))))
 
 abbrev μ-loop : tie.MeasureT-loop

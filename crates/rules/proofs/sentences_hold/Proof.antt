@@ -13,6 +13,7 @@ use Rattle.rules.specs.Execution.{interest, turnOf, settled, executed, e
 use Rattle.rules.specs.Step.{orderIntake, takeIn, steps, ending, recordsOf, acted, accepted, step}
 use Rattle.rules.specs.Run.{opening, answers, after}
 use Rattle.rules.specs.Tape.{tapeRefusal, strategyOf, messagesOf, tapeOf}
+use Rattle.rules.specs.Average.{averageFor, averages}
 use Rattle.rules.specs.Print.{linesFrom, linesOf}
 use Rattle.rules.specs.Sentences.{SentencesHold}
 use Rattle.rules.proofs.sentences_hold.Statement.{statement}
@@ -20,7 +21,7 @@ use Rattle.rules.proofs.sentences_hold.Tie as tie
 
 -- each row, computed
 all-hold : SentencesHold
-unfolding SentencesHold daysBefore openingRefusal derived lower filtered find only added putByPrice byPrice refusal eligible endsByOrder joins endsByLegs shares inTurn deal insert tiers fill turn interest turnOf settled executed execute serve orderIntake takeIn steps ending recordsOf acted accepted step opening answers after tapeRefusal strategyOf messagesOf tapeOf linesFrom linesOf
+unfolding SentencesHold daysBefore openingRefusal derived lower filtered find only added putByPrice byPrice refusal eligible endsByOrder joins endsByLegs shares inTurn deal insert tiers fill turn interest turnOf settled executed execute serve orderIntake takeIn steps ending recordsOf acted accepted step opening answers after tapeRefusal strategyOf messagesOf tapeOf averageFor averages linesFrom linesOf
 all-hold = refl
 
 returns : tie.Need-returns

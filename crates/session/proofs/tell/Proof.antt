@@ -7,8 +7,8 @@ use Rattle.session.proofs.tell.Tie as tie
 step-requires : tie.Need-step-requires
 step-requires c κs = search needs
 
-add-fills-requires : tie.Need-add-fills-requires
-add-fills-requires c κs = search needs
+add-records-requires : tie.Need-add-records-requires
+add-records-requires c κs = search needs
 
 put-outcome-requires : tie.Need-put-outcome-requires
 put-outcome-requires c κs = search needs
@@ -32,14 +32,14 @@ returns c =
     let S = F .before .before .before .before .before .before .before .before .before in
     let B = S .before .before .before .before .before .before .before .before in
     let a = B .args in
-    message-told (a .position) (messageOf (a .m)) (a .longs .now) (a .words .now) (a .list .now) (a .out .now) (a .at) _ _ _ _ _ _ _ (S .step .result) (B .pre .0) (B .pre .1) (S .step .ensures) (F .add-fills .ensures) (P .put-outcome .ensures)
+    message-told (a .position) (messageOf (a .m)) (a .longs .now) (a .words .now) (a .list .now) (a .out .now) (a .at) _ _ _ _ _ _ _ (S .step .result) (B .pre .0) (B .pre .1) (S .step .ensures) (F .add-records .ensures) (P .put-outcome .ensures)
 
 pub tell-spec : {M : Type 1} → statement M
 tell-spec =
     tie.close
     (tie.spec
     step-requires
-    add-fills-requires
+    add-records-requires
     put-outcome-requires
     same-length
     same-length-2
