@@ -123,6 +123,20 @@ typedef struct tumghavi_fill {
 /* The places that a fill list must have: no message has more records. */
 #define TUMGHAVI_LEAST_PLACES 2000
 
+/* The kinds of averages. */
+enum { TUMGHAVI_NO_AVERAGE = 1, TUMGHAVI_EXACT_AVERAGE = 2 };
+
+/*
+ * The average net price of an order: the sum of price times units over the records that name it as order, divided by their units.
+ * The quotient is in cents, rounded toward minus infinity; the remainder is from 0 to the units less 1. An order without fills
+ * has none, and both are 0.
+ */
+typedef struct tumghavi_average_price {
+    uint32_t kind;
+    int64_t quotient;
+    uint64_t remainder;
+} tumghavi_average_price;
+
 /* How many orders and responses are open. */
 typedef struct tumghavi_open_counts {
     size_t orders;
@@ -141,6 +155,7 @@ uint32_t tumghavi_open_in(uint64_t *longs, uint32_t *words, tumghavi_opening ope
 tumghavi_outcome tumghavi_step_in(uint64_t *longs, uint32_t *words, uint64_t *list, size_t numbers, tumghavi_message message);
 tumghavi_outcome tumghavi_record_in(uint64_t *longs, uint32_t *words, uint64_t *list, size_t numbers, const uint8_t *bytes, size_t size);
 tumghavi_open_counts tumghavi_counts_in(const uint32_t *words);
+tumghavi_average_price tumghavi_average_in(const uint64_t *list, size_t numbers, size_t fills, uint32_t order);
 
 /*
  * The bytes that tapeprint prints for a tape: as many as out has room for, from its start on; what stands behind them is as it was.
@@ -219,6 +234,18 @@ static inline int tumghavi_fill_is_legs(const tumghavi_fill *fill)
 static inline uint32_t tumghavi_fill_contra(const tumghavi_fill *fill)
 {
     return fill->contra == 0 ? 0 : (uint32_t)(fill->contra - 1);
+}
+
+/* ---- the fills of a message */
+
+/*
+ * The average of an order over the fill records of a message, as many as its outcome counts. Of more than TUMGHAVI_LEAST_PLACES,
+ * which no message has, only so many are looked at. Any records are answered for: units and an order above 32 bits count as the
+ * greatest number of 32 bits, a price above 2^62 counts as that.
+ */
+static inline tumghavi_average_price tumghavi_average(const tumghavi_fill *fills, size_t count, uint32_t order)
+{
+    return tumghavi_average_in(&fills->number, count * 6, count, order);
 }
 
 /* ---- a copy as bytes, little-endian, on any machine */

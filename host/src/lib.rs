@@ -1,13 +1,14 @@
 //! The proved auction engine for hosts in Rust: a copy of the engine held in the host's own memory and changed in place.
 //!
 //! [`Engine::open`] opens a strategy, [`Engine::step`] answers a message, with its fill records in a list that the host
-//! lends, and [`Engine::record`] does so from the 36 bytes of a message record. Every value of every field is answered:
-//! a wrong one is refused with a number ([`Refusal`]), and a refused message changes nothing. Nothing here panics.
+//! lends, and [`Engine::record`] does so from the 36 bytes of a message record; [`Outcome::average`] is the average price of
+//! an order over those records. Every value of every field is answered: a wrong one is refused with a number ([`Refusal`]),
+//! and a refused message changes nothing. Nothing here panics.
 //!
 //! The own case of document 01: ten units of a seller of fifteen go to the legs, and five to the buyer who rests.
 //!
 //! ```
-//! use tumghavi::{Account, Cause, Contra, Engine, Fill, Leg, Message, Opening, Outcome, Rank, Settings, Side};
+//! use tumghavi::{Account, Average, Contra, Engine, Fill, Leg, Message, Opening, Outcome, Rank, Settings, Side};
 //!
 //! let leg = |symbol, side| Leg { symbol, side, ratio: 1, mpv: 5 };
 //! let legs = [leg(*b"XYZ   260116C00020000", Side::BUY), leg(*b"XYZ   260116C00025000", Side::SELL)];
@@ -43,6 +44,9 @@
 //! assert_eq!(fills[0].to_string(), "4 8 L 0 100 10");
 //! assert_eq!(fills[1].to_string(), "4 8 R 7 100 5");
 //! assert_eq!((fills[1].rank(), fills[1].contra(), fills[1].units()), (Rank::R, Contra::Entry(7), 5));
+//! assert_eq!(outcome.average(&fills, 8), Average::Exact { quotient: 100, remainder: 0 });
+//! // Order 7 was only the other side.
+//! assert_eq!(outcome.average(&fills, 7), Average::None);
 //!
 //! let cancel = Message::Cancel { time: 0, id: 9, participant: 1 };
 //! let Outcome::Refused(refusal) = engine.step(&cancel, &mut fills) else { panic!() };
@@ -54,6 +58,7 @@
 #![deny(unsafe_code, missing_docs)]
 #![forbid(unsafe_op_in_unsafe_fn, unused_must_use)]
 
+mod average;
 mod engine;
 mod fill;
 #[allow(unsafe_code)]
@@ -62,6 +67,7 @@ mod message;
 mod opening;
 mod outcome;
 
+pub use average::Average;
 pub use engine::Engine;
 pub use fill::{Contra, Fill, Rank};
 pub use message::{Account, Message, Record, Side};

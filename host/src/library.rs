@@ -1,5 +1,6 @@
 //! The proved library. All that is unsafe is here: the calls of its functions.
 
+use crate::average::AverageRow;
 use crate::fill::Fill;
 use crate::message::Record;
 use crate::opening::OpeningRow;
@@ -41,6 +42,7 @@ extern "C" {
         size: usize,
     ) -> OutcomeRow;
     fn tumghavi_counts_in(words: *const [u32; WORDS]) -> Counts;
+    fn tumghavi_average_in(list: *const u64, numbers: usize, fills: usize, order: u32) -> AverageRow;
     fn tumghavi_print(tape: *const u8, tape_size: usize, out: *mut u8, out_size: usize) -> usize;
     fn tumghavi_form(tape: *const u8, tape_size: usize, out: *mut u8, out_size: usize) -> Reply;
 }
@@ -68,6 +70,11 @@ pub fn record(longs: &mut [u64; LONGS], words: &mut [u32; WORDS], fills: &mut [F
 pub fn counts(words: &[u32; WORDS]) -> Counts {
     // SAFETY: the array is whole and only read.
     unsafe { tumghavi_counts_in(words) }
+}
+
+pub fn average(fills: &[Fill], count: usize, order: u32) -> AverageRow {
+    // SAFETY: a fill is six numbers, as in `step`; they are only read, and whatever the count is the library stays inside them.
+    unsafe { tumghavi_average_in(fills.as_ptr().cast(), numbers(fills), count, order) }
 }
 
 pub fn print(tape: &[u8], out: &mut [u8]) -> usize {

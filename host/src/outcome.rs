@@ -1,5 +1,8 @@
 //! What a message is answered with.
 
+use crate::average::Average;
+use crate::fill::Fill;
+use crate::library;
 use std::error::Error;
 use std::fmt;
 
@@ -62,6 +65,22 @@ impl Outcome {
             Outcome::Noted { fills } | Outcome::Placed { fills, .. } | Outcome::Ended { fills, .. } => fills,
             Outcome::Begun { .. } | Outcome::Joined { .. } | Outcome::Refused(_) => 0,
         }
+    }
+
+    /// The average price of an order over the message's fill records, which stand at the start of `fills`. Any list and any count
+    /// are answered for: there is nothing behind the end of the list, and what is behind [`Fill::LEAST_PLACES`] is not looked at.
+    ///
+    /// ```
+    /// use tumghavi::{Average, Fill, Outcome};
+    ///
+    /// // Order 8: one unit at -3 and one at -4; a third record is of another message.
+    /// let at = |price: i64| Fill::from([4, 8, 0, 0, (40_000_000 + price) as u64, 1]);
+    /// let (fills, outcome) = ([at(-3), at(-4), at(100)], Outcome::Noted { fills: 2 });
+    /// assert_eq!(outcome.average(&fills, 8), Average::Exact { quotient: -4, remainder: 1 });
+    /// assert_eq!(outcome.average(&fills, 9), Average::None);
+    /// ```
+    pub fn average(&self, fills: &[Fill], order: u32) -> Average {
+        library::average(fills, self.fills(), order).average()
     }
 }
 

@@ -1,4 +1,4 @@
-/* Each field of each struct, and each kind of outcome and reply: that the library reads and writes it where the header has it. */
+/* Each field of each struct, and each kind of outcome, average and reply: that the library reads and writes it where the header has it. */
 #include <stdio.h>
 #include <string.h>
 
@@ -8,6 +8,7 @@ typedef char opening_size[sizeof(tumghavi_opening) == 136 ? 1 : -1];
 typedef char message_size[sizeof(tumghavi_message) == 40 ? 1 : -1];
 typedef char outcome_size[sizeof(tumghavi_outcome) == 32 ? 1 : -1];
 typedef char fill_size[sizeof(tumghavi_fill) == 48 ? 1 : -1];
+typedef char average_size[sizeof(tumghavi_average_price) == 24 ? 1 : -1];
 typedef char reply_size[sizeof(tumghavi_reply) == 16 ? 1 : -1];
 
 #define EXPECT(holds) expect((holds), #holds, __LINE__)
@@ -125,6 +126,16 @@ static tumghavi_message entry(uint8_t kind, uint32_t id, uint8_t side, uint32_t 
     return message;
 }
 
+static int is_average(tumghavi_average_price average, int64_t quotient, uint64_t remainder)
+{
+    return average.kind == TUMGHAVI_EXACT_AVERAGE && average.quotient == quotient && average.remainder == remainder;
+}
+
+static int is_none(tumghavi_average_price average)
+{
+    return average.kind == TUMGHAVI_NO_AVERAGE && average.quotient == 0 && average.remainder == 0;
+}
+
 static tumghavi_outcome send(tumghavi_copy *copy, tumghavi_message message)
 {
     return tumghavi_step(copy, &message, fills, TUMGHAVI_LEAST_PLACES);
@@ -171,6 +182,41 @@ static void outcomes(void)
     EXPECT(outcome.kind == TUMGHAVI_ENDED && outcome.cause == TUMGHAVI_BY_TIME && outcome.fills == 1 && outcome.units == 0 && outcome.deadline == 0);
     EXPECT(fills[0].number == 7 && fills[0].order == 11 && tumghavi_fill_rank(&fills[0]) == 'N' && fills[0].units == 30);
     EXPECT(!tumghavi_fill_is_legs(&fills[0]) && tumghavi_fill_contra(&fills[0]) == 21 && tumghavi_fill_price(&fills[0]) == -120);
+    EXPECT(is_average(tumghavi_average(fills, outcome.fills, 11), -120, 0));
+    EXPECT(is_none(tumghavi_average(fills, outcome.fills, 21)));
+}
+
+/* A record of an order, at a biased price. */
+static tumghavi_fill fill_of(uint64_t order, uint64_t price, uint64_t units)
+{
+    tumghavi_fill fill = {4, 0, 4, 10, 0, 0};
+    fill.order = order;
+    fill.price = price;
+    fill.units = units;
+    return fill;
+}
+
+/* A sum of -7 over 2 units; orders without fills or without units; numbers that are too great, counts past the list, half a record. */
+static void averages(void)
+{
+    const uint64_t zero = 40000000, most = UINT64_C(1) << 62;
+    tumghavi_fill list[5];
+    list[0] = fill_of(8, zero - 3, 1);
+    list[1] = fill_of(8, zero - 4, 1);
+    list[2] = fill_of(6, zero + 100, 0);
+    list[3] = fill_of(UINT64_MAX, UINT64_MAX, UINT64_MAX);
+    list[4] = fill_of(UINT32_MAX, most - 1, 1);
+    EXPECT(is_none(tumghavi_average(list, 0, 8)));
+    EXPECT(is_average(tumghavi_average(list, 1, 8), -3, 0));
+    EXPECT(is_average(tumghavi_average(list, 5, 8), -4, 1));
+    EXPECT(is_none(tumghavi_average(list, 5, 9)));
+    EXPECT(is_none(tumghavi_average(list, 5, 6)));
+    EXPECT(is_average(tumghavi_average(list, 4, UINT32_MAX), (int64_t)(most - zero), 0));
+    EXPECT(is_average(tumghavi_average(list, 5, UINT32_MAX), (int64_t)(most - zero) - 1, UINT32_MAX));
+    EXPECT(is_average(tumghavi_average_in(&list[0].number, 12, SIZE_MAX, 8), -4, 1));
+    EXPECT(is_average(tumghavi_average_in(&list[0].number, 11, 2, 8), -3, 0));
+    EXPECT(is_none(tumghavi_average_in(&list[0].number, 5, 1, 8)));
+    EXPECT(is_none(tumghavi_average_in(&list[0].number, 0, SIZE_MAX, 0)));
 }
 
 /* Bytes of another size than a record's are refused with 61 and change nothing; a record's own size is taken. */
@@ -241,6 +287,7 @@ int main(void)
 {
     openings();
     outcomes();
+    averages();
     records();
     forms();
     return failures != 0;

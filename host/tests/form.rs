@@ -1,7 +1,8 @@
 //! The library's form of a tape against the second program's, on random tapes of every profile, whole and damaged.
 
+mod tapes;
+
 use second::form::write_form;
-use second::gen::random::Random;
 use second::gen::PROFILES;
 use second::tape::{Header, Record, Tape};
 use std::collections::BTreeSet;
@@ -58,17 +59,9 @@ fn agree(tape: &[u8], what: &str) -> u32 {
     }
 }
 
-/// All profiles' tapes of some seeds.
-fn tapes() -> impl Iterator<Item = (String, Vec<u8>)> {
-    let of = |profile: &'static second::gen::Profile| {
-        (1..=20).map(|seed| (format!("{} {seed}", profile.name), profile.tape(seed)))
-    };
-    PROFILES.iter().flat_map(of)
-}
-
 #[test]
 fn whole_tapes() {
-    let mut numbers: Vec<u32> = tapes().map(|(what, tape)| agree(&tape, &what)).collect();
+    let mut numbers: Vec<u32> = tapes::whole().map(|(what, tape)| agree(&tape, &what)).collect();
     numbers.sort();
     numbers.dedup();
     assert_eq!(numbers, [0, 60, 61]);
@@ -89,17 +82,8 @@ fn other_spellings() {
 
 #[test]
 fn damaged_tapes() {
-    let mut random = Random::new(1);
-    for (what, mut tape) in tapes() {
-        for _ in 0..3 {
-            if !tape.is_empty() {
-                let at = random.below(tape.len() as u64) as usize;
-                tape[at] = random.below(256) as u8;
-            }
-        }
-        agree(&tape, &format!("{what}, damaged"));
-        let cut = random.below(tape.len() as u64 + 1) as usize;
-        agree(&tape[..cut], &format!("{what}, cut to {cut}"));
+    for (what, tape) in tapes::damaged() {
+        agree(&tape, &what);
     }
 }
 

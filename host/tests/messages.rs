@@ -6,7 +6,7 @@ use common::{fields, message};
 use second::execution::FillList;
 use second::gen::random::Random;
 use second::gen::PROFILES;
-use second::print::fill_line;
+use second::print::fill_lines;
 use second::strategy::Leg;
 use second::tape::{Header, Record, Tape};
 use second::{engine, execution};
@@ -85,11 +85,11 @@ fn sessions() -> impl Iterator<Item = Session> {
     })
 }
 
-/// The second program's answer to a record, in the library's words, and its fill lines.
+/// The second program's answer to a record, in the library's words, and the lines of its fills and their averages.
 fn expected(plain: &mut engine::Engine, record: &Record, fills: &mut [execution::Fill]) -> (Outcome, String) {
     let Some(message) = record.message() else { return (Outcome::Refused(Refusal::new(61)), String::new()) };
     let outcome = plain.apply(&message, fills);
-    let lines = fills[..outcome.fill_count()].iter().map(fill_line).collect();
+    let lines = fill_lines(&fills[..outcome.fill_count()]);
     let outcome = match outcome {
         engine::Outcome::Noted { fills } => Outcome::Noted { fills },
         engine::Outcome::Placed { units, fills } => Outcome::Placed { units: units.into(), fills },
@@ -103,6 +103,19 @@ fn expected(plain: &mut engine::Engine, record: &Record, fills: &mut [execution:
     (outcome, lines)
 }
 
+/// The same lines, of the library's records and averages.
+fn lines(outcome: &Outcome, list: &[Fill]) -> String {
+    let fills = &list[..outcome.fills()];
+    let mut orders: Vec<u32> = Vec::new();
+    for order in fills.iter().map(Fill::order) {
+        if !orders.contains(&order) {
+            orders.push(order);
+        }
+    }
+    let averages = orders.iter().map(|&order| format!("average {order} {}\n", outcome.average(list, order)));
+    fills.iter().map(|fill| format!("{fill}\n")).chain(averages).collect()
+}
+
 /// A list in which every place shows whether it was written.
 fn marked(places: usize) -> Vec<Fill> {
     vec![Fill::from([7; Fill::NUMBERS]); places]
@@ -114,7 +127,7 @@ fn keeps(before: (&Engine, &[Fill]), after: (&Engine, &[Fill]), outcome: Outcome
     untouched && (!matches!(outcome, Outcome::Refused(_)) || before == after)
 }
 
-/// Outcomes, records and open counts are the second program's, from a message, from a record's fields and from its bytes.
+/// Outcomes, records, averages and open counts are the second program's, from a message, from a record's fields and from its bytes.
 #[test]
 fn message_by_message() {
     let mut fills = vec![execution::Fill::BLANK; FillList::LEAST_PLACES];
@@ -126,13 +139,12 @@ fn message_by_message() {
         for (position, bytes) in (1..).zip(&session.records) {
             let what = format!("{}, message {position}", session.what);
             let record = Record::read(bytes);
-            let (outcome, lines) = expected(&mut plain, &record, &mut fills);
+            let (outcome, expected_lines) = expected(&mut plain, &record, &mut fills);
             let before = (proved.clone(), list.clone());
             assert_eq!(proved.step(&message(&record), &mut list), outcome, "{what}");
             assert_eq!(of_fields.step(&Message::Record(fields(&record)), &mut list_of_fields), outcome, "{what}");
             assert_eq!(of_bytes.record(bytes, &mut list_of_bytes), outcome, "{what}");
-            let given: String = list[..outcome.fills()].iter().map(|fill| format!("{fill}\n")).collect();
-            assert_eq!(given, lines, "{what}");
+            assert_eq!(lines(&outcome, &list), expected_lines, "{what}");
             assert!(keeps((&before.0, &before.1), (&proved, &list), outcome), "{what}");
             assert!(proved == of_fields && proved == of_bytes, "{what}");
             assert!(list == list_of_fields && list == list_of_bytes, "{what}");

@@ -90,6 +90,21 @@ static void print_fill(const tumghavi_fill *fill)
         (unsigned long)tumghavi_fill_contra(fill), (long long)tumghavi_fill_price(fill), (unsigned long long)fill->units);
 }
 
+static int is_first(uint32_t at)
+{
+    uint32_t i = 0;
+    while (fills[i].order != fills[at].order)
+        i++;
+    return i == at;
+}
+
+static void print_average(uint32_t count, uint32_t order)
+{
+    const tumghavi_average_price average = tumghavi_average(fills, count, order);
+    if (average.kind == TUMGHAVI_EXACT_AVERAGE)
+        printf("average %lu %lld %llu\n", (unsigned long)order, (long long)average.quotient, (unsigned long long)average.remainder);
+}
+
 static void step(unsigned position, const tumghavi_message *message)
 {
     tumghavi_outcome outcome;
@@ -98,6 +113,9 @@ static void step(unsigned position, const tumghavi_message *message)
     outcome = tumghavi_step(&copy, message, fills, TUMGHAVI_LEAST_PLACES);
     for (i = 0; i < outcome.fills; i++)
         print_fill(&fills[i]);
+    for (i = 0; i < outcome.fills; i++)
+        if (is_first(i))
+            print_average(outcome.fills, (uint32_t)fills[i].order);
     if (outcome.kind == TUMGHAVI_REFUSED)
         printf("refused %u %lu\n", position, (unsigned long)outcome.number);
 }

@@ -1,40 +1,25 @@
 //! The library's output for a tape against the second program's, on random tapes of every profile, whole and damaged.
 
-use second::gen::random::Random;
-use second::gen::PROFILES;
+mod tapes;
 
-fn agree(tape: &[u8], what: &str) {
+/// How many lines of averages there are; all lines are the second program's.
+fn agree(what: &str, tape: &[u8]) -> usize {
     let expected = second::print::tapeprint(tape);
     let printed = tumghavi::print(tape);
     assert!(printed == expected.as_bytes(), "{what}: {} and {}", String::from_utf8_lossy(&printed), expected);
+    expected.lines().filter(|line| line.starts_with("average ")).count()
 }
 
 #[test]
 fn whole_tapes() {
-    for profile in &PROFILES {
-        for seed in 1..=20 {
-            agree(&profile.tape(seed), &format!("{} {seed}", profile.name));
-        }
-    }
+    let averages: usize = tapes::whole().map(|(what, tape)| agree(&what, &tape)).sum();
+    assert!(averages > 10_000, "{averages}");
 }
 
 #[test]
 fn damaged_tapes() {
-    let mut random = Random::new(1);
-    for profile in &PROFILES {
-        for seed in 1..=20 {
-            let mut tape = profile.tape(seed);
-            for _ in 0..3 {
-                if !tape.is_empty() {
-                    let at = random.below(tape.len() as u64) as usize;
-                    tape[at] = random.below(256) as u8;
-                }
-            }
-            agree(&tape, &format!("{} {seed}, damaged", profile.name));
-            let cut = random.below(tape.len() as u64 + 1) as usize;
-            agree(&tape[..cut], &format!("{} {seed}, cut to {cut}", profile.name));
-        }
-    }
+    let averages: usize = tapes::damaged().map(|(what, tape)| agree(&what, &tape)).sum();
+    assert!(averages > 7_000, "{averages}");
 }
 
 #[test]
