@@ -2,8 +2,10 @@
 use mathlib.Core.Path.{_≡_, refl, ap, ap₂, sym, _∙_, subst}
 use mathlib.Core.Bool.{Bool, true, false}
 use mathlib.Core.List.{List, [], _∷_, _++_, map}
-use Prim.Native.Nat.{ℕ, _+_, _≤_}
+use Prim.Native.Nat.{ℕ, _+_, _*_, _/_, _≤_, min}
+use native.Mathlib.Decide.{ℕ-discrete}
 use native.Mathlib.Omega.{arith}
+use borrow.Author.Tests.{ne-eqb}
 use lib.Dec.{eqb}
 use lib.ListN.{length, take, drop}
 use Rattle.rules.specs.Basics.{pick, All}
@@ -27,18 +29,20 @@ use Rattle.rules.proofs.AverageLaws.{averages-are-exact-of-rules}
 use Rattle.rules.proofs.ArrivalLaws.{records-by-arrival-of-rules, records-are-fixed}
 use Rattle.types.specs.declared.Opening.{Opening}
 use Rattle.types.specs.declared.Fill.{Fill}
-use Rattle.types.specs.View.{openingOf, messageOf, rankOf, contraOf, fillOf, outcomeOf}
-use Rattle.state.specs.Layout.{isSized}
+use Rattle.types.specs.View.{openingOf, rankOf, contraOf, fillOf}
 use Rattle.types.proofs.TableLaws.{from-length}
+use Rattle.state.specs.Layout.{isSized}
 use Rattle.state.specs.View.{openCount, entryAt, stateOf}
+use Rattle.records.specs.Records.{width}
 use Rattle.opening.specs.Opens.{openedBy, Opens}
 use Rattle.engine.specs.Steps.{recordsIn, placesIn}
+use Rattle.engine.proofs.StepLaws.{passes}
 use Rattle.average.specs.Sums.{firstRecords}
 use Rattle.text.proofs.FillLaws.{records-known}
 use Rattle.fills.specs.Fills.{storedRank, storedContra, storedFill, written}
 use Rattle.text.specs.Text.{linesText}
 use Rattle.session.specs.Lines.{sent, tapeText}
-use Rattle.demand.specs.Engine.{Stepped, Applied, Taken, byStep, byApply, longsAfter, wordsAfter, sentOf, fillCount, outcomeBy, toldBy, Run, over, then, sents, told, saidBy, endOf, Copy, Demand3, RecordsByArrival, Asked, AllAsked, AveragesAreExact, linesBy, textBy, Alike, ListIsFixed}
+use Rattle.demand.specs.Engine.{Taken, byStep, byApply, longsAfter, wordsAfter, listAfter, sentOf, fillCount, outcomeBy, toldBy, Run, over, then, sents, told, saidBy, endOf, Copy, Demand3, RecordsByArrival, Asked, AllAsked, AveragesAreExact, linesBy, textBy, Alike, ListIsFixed}
 
 -- ---- the fill count of an outcome is the number of its records
 
@@ -65,6 +69,11 @@ step-count s m room = by (eqb (refusal s m room) 0)
     by : (x : Bool) → fillCount (pick x (accepted s m) (turnedBack s (refusal s m room)) .outcome) ≡ length (pick x (accepted s m) (turnedBack s (refusal s m room)) .fills)
     by true = let i = takeIn (taken s (m .time)) (m .body) in answered-count (m .body) (i .state) (i .act)
     by false = refl
+
+-- a refused message has none
+no-records : (s : State) (m : Message) (room : ℕ) → (refusal s m room ≡ 0 → ⊥) → length (step s m room .fills) ≡ 0
+unfolding step
+no-records s m room n = rw (ne-eqb (refusal s m room) 0 n)
 
 -- ---- the records of a list of structs
 
@@ -94,25 +103,23 @@ first-written ys fs = first fs (drop (length (map storedFill fs)) ys)
 -- ---- one message
 
 module _ (longs words : List ℕ) where
-  count-is : (a : Stepped longs words) → fillCount (outcomeOf (a .answer .outcome)) ≡ a .answer .count
-  count-is a = ap fillCount (a .kept .outcome) ∙ step-count (stateOf longs words) (messageOf (a .message)) (placesIn longs words (a .list) (a .room)) ∙ sym (a .kept .count)
-
-  told-stepped : (a : Stepped longs words) → toldBy (byStep a) ≡ answerTo (stateOf longs words) (sentOf (byStep a)) .fills
-  told-stepped a = ap (recordsIn (a .list′)) (count-is a) ∙ a .kept .records
-
-  told-applied : (a : Applied longs words) → toldBy (byApply a) ≡ answerTo (stateOf longs words) (sentOf (byApply a)) .fills
-  told-applied a =
-      let places : ℕ = placesIn longs words (a .list) (length (a .fills)) in
-      ap₂ (λ (n : ℕ) (l : List Fill). map fillOf (take n l)) (ap fillCount (a .kept .outcome) ∙ step-count (stateOf longs words) (messageOf (a .message)) places) (a .kept .list)
-      ∙ first-written (a .fills) (step (stateOf longs words) (messageOf (a .message)) places .fills)
-
-  told-here : (a : Taken longs words) → toldBy a ≡ answerTo (stateOf longs words) (sentOf a) .fills
-  told-here (byStep a) = told-stepped a
-  told-here (byApply a) = told-applied a
-
   said-here : (a : Taken longs words) → outcomeBy a ≡ answerTo (stateOf longs words) (sentOf a) .outcome
   said-here (byStep a) = a .kept .outcome
   said-here (byApply a) = a .kept .outcome
+
+  count-here : (a : Taken longs words) → fillCount (outcomeBy a) ≡ length (answerTo (stateOf longs words) (sentOf a) .fills)
+  count-here a = ap fillCount (said-here a) ∙ step-count (stateOf longs words) (sentOf a .message) (sentOf a .room)
+
+  -- the records in the list of numbers
+  listed-here : (a : Taken longs words) → recordsIn (listAfter a) (fillCount (outcomeBy a)) ≡ answerTo (stateOf longs words) (sentOf a) .fills
+  listed-here (byStep a) = ap (recordsIn (a .list′)) (count-here (byStep a) ∙ sym (a .kept .count)) ∙ a .kept .records
+  listed-here (byApply a) = ap (recordsIn (a .list′)) (count-here (byApply a)) ∙ a .kept .records
+
+  told-here : (a : Taken longs words) → toldBy a ≡ answerTo (stateOf longs words) (sentOf a) .fills
+  told-here (byStep a) = listed-here (byStep a)
+  told-here (byApply a) =
+      ap₂ (λ (n : ℕ) (l : List Fill). map fillOf (take n l)) (count-here (byApply a)) (a .kept .list)
+      ∙ first-written (a .fills) (answerTo (stateOf longs words) (sentOf (byApply a)) .fills)
 
   state-after : (a : Taken longs words) → stateOf (longsAfter a) (wordsAfter a) ≡ answerTo (stateOf longs words) (sentOf a) .state
   state-after (byStep a) = a .kept .state
@@ -120,22 +127,39 @@ module _ (longs words : List ℕ) where
 
   -- ---- an average
 
-  few-records : (a : Stepped longs words) → a .answer .count ≤ leastRoom
+  few-records : (a : Taken longs words) → fillCount (outcomeBy a) ≤ leastRoom
   unfolding RecordsFit
   few-records a =
-      let few = records-fit (stateOf longs words) (messageOf (a .message)) (placesIn longs words (a .list) (a .room)) (rw (from-length (entryAt longs words) 0 (openCount words)) (omega arith)) in
-      omega (arith, a .kept .count, few .0)
+      let few = records-fit (stateOf longs words) (sentOf a .message) (sentOf a .room) (rw (from-length (entryAt longs words) 0 (openCount words)) (omega arith)) in
+      omega (arith, count-here a, few .0)
 
-  asked-stepped : (a : Stepped longs words) → GoodAverages (toldBy (byStep a)) → Asked (byStep a)
-  asked-stepped a g i r h =
-      let n : ℕ = fillCount (outcomeOf (a .answer .outcome)) in
-      let c : n ≡ a .answer .count = count-is a in
-      let e : firstRecords (a .list′) n ≡ toldBy (byStep a) = records-known (a .list′) n (omega (arith, c, few-records a)) (omega (arith, c, a .kept .inside .1, a .kept .sized .2)) in
-      subst (Says i (toldBy (byStep a))) (sym (h ∙ ap (averageFor i) e)) (g .asked i)
+  places-inside : (list : List ℕ) (room : ℕ) → placesIn longs words list room * width ≤ length list
+  places-inside list room = go (isSized longs words)
+    where
+      go : (b : Bool) → pick b (min room (length list / width)) 0 * width ≤ length list
+      go true = omega arith
+      go false = omega arith
+
+  room-inside : (a : Taken longs words) → sentOf a .room * width ≤ length (listAfter a)
+  room-inside (byStep a) = omega (arith, places-inside (a .list) (a .room), a .kept .sized .2)
+  room-inside (byApply a) = omega (arith, places-inside (a .list) (length (a .fills)), a .kept .sized .2)
+
+  -- a message without 2,000 places has no records
+  records-inside : (a : Taken longs words) → fillCount (outcomeBy a) * width ≤ length (listAfter a)
+  records-inside a =
+      let few = few-records a in
+      let count = count-here a in
+      let room = room-inside a in
+      elim (ℕ-discrete (refusal (stateOf longs words) (sentOf a .message) (sentOf a .room)) 0) [
+        | yes e ↦ omega (arith, few, room, passes (stateOf longs words) (sentOf a .message) (sentOf a .room) e .0)
+        | no n ↦ omega (arith, count, no-records (stateOf longs words) (sentOf a .message) (sentOf a .room) n)
+      ]
 
   asked-here : (a : Taken longs words) → GoodAverages (toldBy a) → Asked a
-  asked-here (byStep a) g = asked-stepped a g
-  asked-here (byApply a) g = tt
+  asked-here a g i r h =
+      let e : firstRecords (listAfter a) (fillCount (outcomeBy a)) ≡ toldBy a =
+      records-known (listAfter a) (fillCount (outcomeBy a)) (few-records a) (records-inside a) ∙ listed-here a ∙ sym (told-here a) in
+      subst (Says i (toldBy a)) (sym (h ∙ ap (averageFor i) e)) (g .asked i)
 
 -- ---- a list of messages
 

@@ -66,6 +66,11 @@ abbrev pub wordsAfter : {longs words : List ℕ} → Taken longs words → List 
 wordsAfter (byStep a) = a .words′
 wordsAfter (byApply a) = a .words′
 
+-- and the list of numbers
+abbrev pub listAfter : {longs words : List ℕ} → Taken longs words → List ℕ
+listAfter (byStep a) = a .list′
+listAfter (byApply a) = a .list′
+
 -- what the replay is fed: the message with the places that it has for its records
 abbrev pub sentOf : {longs words : List ℕ} → Taken longs words → Sent
 sentOf {longs} {words} (byStep a) = record { message = messageOf (a .message); room = placesIn longs words (a .list) (a .room) }
@@ -134,10 +139,9 @@ Demand3 = (o : Opening) (c : Copy o) → Good (startOf (openingOf o)) (sents (c 
 unfoldable pub RecordsByArrival : Type 0
 RecordsByArrival = (o : Opening) (c : Copy o) → AllStand noArrivals (startOf (openingOf o)) (sents (c .run)) (told (c .run))
 
--- what any order is told by `average_of`, asked with the list as `step` left it and the fills that the outcome counts
+-- what any order is told by `average_of`, asked with the list of numbers as it came back and the fills that the outcome counts
 abbrev pub Asked : {longs words : List ℕ} → Taken longs words → Type 0
-Asked (byStep a) = (i : ℕ) (r : Average) → IsAverage (a .list′) (fillCount (outcomeOf (a .answer .outcome))) i r → Says i (toldBy (byStep a)) (averageOf r)
-Asked (byApply a) = Unit {0}
+Asked a = (i : ℕ) (r : Average) → IsAverage (listAfter a) (fillCount (outcomeBy a)) i r → Says i (toldBy a) (averageOf r)
 
 abbrev pub AllAsked : {longs words : List ℕ} → Run longs words → Type 0
 AllAsked (over longs words) = Unit {0}
