@@ -18,10 +18,6 @@ quotient-fits units q r h =
       | no n ↦ absurd (omega (arith, mul-le-mul-right {m = 18_446_744_073_709_551_616} {n = q} units (omega arith)))
     ]
 
--- a part of a number that fits
-pub fits-below : (units x y : ℕ) → x ≤ y → Fits units y → Fits units x
-fits-below units x y l h = omega arith
-
 -- a number of 64 bits, no more times than the units
 pub fits-times : (units x k : ℕ) → 0 < units → x < 18_446_744_073_709_551_616 → k ≤ units → Fits units (x * k)
 fits-times units x k p h l = omega (arith, mul-le-mul-left x l, mul-lt-mul-of-pos-right h p)
