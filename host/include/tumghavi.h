@@ -18,12 +18,12 @@ extern "C" {
 
 /* A copy: all of its state, to be assigned, compared and kept as it is, or saved as bytes. */
 typedef struct tumghavi_copy {
-    uint64_t longs[70];
+    uint64_t longs[71];
     uint32_t words[580];
 } tumghavi_copy;
 
 /* The bytes of a saved copy. */
-#define TUMGHAVI_COPY_SIZE 2880
+#define TUMGHAVI_COPY_SIZE 2888
 
 /* ---- an opening */
 
@@ -253,10 +253,10 @@ static inline tumghavi_average_price tumghavi_average(const tumghavi_fill *fills
 static inline void tumghavi_save(const tumghavi_copy *copy, uint8_t *bytes)
 {
     size_t i;
-    for (i = 0; i < 560; i++)
+    for (i = 0; i < 568; i++)
         bytes[i] = (uint8_t)(copy->longs[i / 8] >> 8 * (i % 8));
     for (i = 0; i < 2320; i++)
-        bytes[560 + i] = (uint8_t)(copy->words[i / 4] >> 8 * (i % 4));
+        bytes[568 + i] = (uint8_t)(copy->words[i / 4] >> 8 * (i % 4));
 }
 
 /* Any bytes are answered for, but only saved ones are a copy that messages have led to. */
@@ -265,10 +265,10 @@ static inline void tumghavi_load(tumghavi_copy *copy, const uint8_t *bytes)
     const tumghavi_copy none = {{0}, {0}};
     size_t i;
     *copy = none;
-    for (i = 0; i < 560; i++)
+    for (i = 0; i < 568; i++)
         copy->longs[i / 8] |= (uint64_t)bytes[i] << 8 * (i % 8);
     for (i = 0; i < 2320; i++)
-        copy->words[i / 4] |= (uint32_t)bytes[560 + i] << 8 * (i % 4);
+        copy->words[i / 4] |= (uint32_t)bytes[568 + i] << 8 * (i % 4);
 }
 
 #ifdef __cplusplus

@@ -7,7 +7,7 @@ use crate::opening::OpeningRow;
 use crate::outcome::OutcomeRow;
 
 /// The two arrays that a copy is kept in.
-pub const LONGS: usize = 70;
+pub const LONGS: usize = 71;
 pub const WORDS: usize = 580;
 
 /// How many orders and responses are open.

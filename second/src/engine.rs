@@ -1,8 +1,8 @@
 //! "Order and auction life", the six outcomes, and "Where a message is turned back".
 
 use crate::book::{Account, Book, Entry, Standing};
-use crate::execution::{Fill, FillList, Mode, Turn, Watch};
-use crate::market::{national_side_fits, LocalSide, Market, Quote};
+use crate::execution::{Fill, FillList, Mode, Start, Turn, Watch};
+use crate::market::{national_side_fits, Derived, LocalSide, Market, Quote};
 use crate::message::{Message, Request, Terms};
 use crate::strategy::{Cents, Leg, Settings, Side, Strategy};
 use crate::{refuse_if, Refusal};
@@ -45,8 +45,8 @@ pub struct Auction {
     pub side: Side,
     pub limit: Cents,
     pub deadline: u64,
-    /// The derived contra price when the auction began.
-    pub starting_price: Option<Cents>,
+    /// The derived contra price when the auction began, with the least units it has shown since.
+    pub start: Option<Start>,
 }
 
 /// An opened strategy with its quotes, its open entries and its auction.
@@ -123,7 +123,11 @@ impl Engine {
     ) -> Outcome {
         match self.check(message, fills.len()) {
             Err(number) => Outcome::Refused { number },
-            Ok(accepted) => self.accept(message.time, accepted, FillList::new(fills), watch),
+            Ok(accepted) => {
+                let outcome = self.accept(message.time, accepted, FillList::new(fills), watch);
+                self.read_starting_price();
+                outcome
+            }
         }
     }
 
@@ -353,9 +357,20 @@ impl Engine {
             side: initiator.side,
             limit: initiator.limit,
             deadline,
-            starting_price: derived.map(|d| d.price),
+            start: derived.map(|Derived { price, units }| Start { price, units }),
         });
         Outcome::Begun { deadline }
+    }
+
+    /// What the starting price shows is read as the auction begins, after each later accepted
+    /// message, and as its end begins.
+    fn read_starting_price(&mut self) {
+        if let Some(auction) = &mut self.auction {
+            let derived = self.market.derived_contra(&self.strategy, auction.side);
+            if let Some(start) = &mut auction.start {
+                start.read(derived);
+            }
+        }
     }
 
     fn queue_units(&self) -> u32 {
@@ -398,10 +413,11 @@ impl Engine {
         fills: &mut FillList,
         watch: &mut impl Watch,
     ) -> Outcome {
-        let starting_price = self.auction.take().and_then(|a| a.starting_price);
+        self.read_starting_price();
+        let start = self.auction.take().and_then(|auction| auction.start);
+        let mut mode = Mode::Queue { start };
         while let Some(at) = self.book.best(|e| e.standing == Standing::Queue) {
-            let mode = Mode::Queue { starting_price };
-            self.turn(at, mode, Standing::Held, fills, watch);
+            self.turn(at, &mut mode, Standing::Held, fills, watch);
         }
         self.book.expire_responses();
         self.steps_without_auction(fills, watch);
@@ -419,11 +435,11 @@ impl Engine {
             return;
         }
         while let Some(at) = self.book.position(|e| e.standing == Standing::Held) {
-            self.turn(at, Mode::GoingLive, Standing::Live, fills, watch);
+            self.turn(at, &mut Mode::GoingLive, Standing::Live, fills, watch);
         }
         for side in [Side::Buy, Side::Sell] {
             while let Some(at) = self.best_at_the_legs(side) {
-                self.turn(at, Mode::LegsPass, Standing::Live, fills, watch);
+                self.turn(at, &mut Mode::LegsPass, Standing::Live, fills, watch);
             }
         }
     }
@@ -440,7 +456,7 @@ impl Engine {
     fn turn(
         &mut self,
         at: usize,
-        mode: Mode,
+        mode: &mut Mode,
         remainder: Standing,
         fills: &mut FillList,
         watch: &mut impl Watch,

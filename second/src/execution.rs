@@ -90,12 +90,30 @@ impl<'a> FillList<'a> {
     }
 }
 
+/// The derived contra price when an auction began, and how many of its units are rank L (M-103).
+#[derive(Clone, Copy, PartialEq, Eq, Debug)]
+pub struct Start {
+    pub price: Cents,
+    /// "The smallest number of units it has shown since the start"; at the end, less what queue
+    /// orders took from rank L.
+    pub units: u32,
+}
+
+impl Start {
+    /// Reads the derived contra price as it stands. "If the price moved away and came back, that
+    /// number is 0."
+    pub fn read(&mut self, derived: Option<Derived>) {
+        let shown = derived.filter(|derived| derived.price == self.price);
+        self.units = self.units.min(shown.map_or(0, |derived| derived.units));
+    }
+}
+
 /// "A turn is each execution there: from the queue, on going live, in the legs' pass."
 #[derive(Clone, Copy, PartialEq, Eq, Debug)]
 pub enum Mode {
-    /// With the derived contra price when the auction began.
+    /// `None` where no derived contra price existed when the auction began.
     Queue {
-        starting_price: Option<Cents>,
+        start: Option<Start>,
     },
     GoingLive,
     LegsPass,
@@ -111,6 +129,28 @@ impl Mode {
             Mode::LegsPass => false,
         };
         standing && entry.side == order.opposite() && entry.units > 0
+    }
+
+    /// How many of the legs' units are rank L for an order of a side; the others are T. "Legs are
+    /// late if their price is better, for the order, than the same derived price when the auction
+    /// began, or none existed then"; where it is equal, "only the smallest number of units it has
+    /// shown since the start is rank L, and the remaining units are T".
+    fn units_of_rank_l(self, order: Side, legs: &Derived) -> u32 {
+        let contra = order.opposite();
+        match self {
+            Mode::Queue { start: None } => 0,
+            Mode::Queue { start: Some(start) } if contra.better(legs.price, start.price) => 0,
+            Mode::Queue { start: Some(start) } if legs.price == start.price => start.units,
+            _ => legs.units,
+        }
+    }
+
+    /// "What one queue order takes from rank L is gone for the next."
+    fn lower_rank_l(&mut self, price: Cents, units: u32) {
+        match self {
+            Mode::Queue { start: Some(start) } if start.price == price => start.units -= units,
+            _ => {}
+        }
     }
 }
 
@@ -161,7 +201,7 @@ pub struct Turn<'a> {
     pub book: &'a mut Book,
     /// The order's place in the book.
     pub at: usize,
-    pub mode: Mode,
+    pub mode: &'a mut Mode,
     /// The message's arrival number.
     pub number: u64,
 }
@@ -183,23 +223,14 @@ impl Turn<'_> {
         self.book.entries().iter().filter(opens)
     }
 
-    /// "Legs are late if their price is better, for the order, than the same derived price when
-    /// the auction began, or none existed then; else all their units are L."
-    pub fn legs_rank(&self, price: Cents) -> Rank {
-        let contra = self.order().side.opposite();
-        match self.mode {
-            Mode::Queue {
-                starting_price: None,
-            } => Rank::T,
-            Mode::Queue {
-                starting_price: Some(start),
-            } if contra.better(price, start) => Rank::T,
-            _ => Rank::L,
-        }
+    /// How many of the legs' units are rank L, and how many T.
+    pub fn legs_ranks(&self, legs: &Derived) -> (u32, u32) {
+        let early = self.mode.units_of_rank_l(self.order().side, legs);
+        (early, legs.units - early)
     }
 
     pub fn entry_rank(&self, entry: &Entry) -> Rank {
-        match (self.mode, entry.account) {
+        match (*self.mode, entry.account) {
             (Mode::Queue { .. }, Account::Customer) => Rank::C,
             (Mode::Queue { .. }, Account::NonCustomer) => Rank::N,
             (Mode::GoingLive | Mode::LegsPass, _) => Rank::R,
@@ -235,10 +266,7 @@ impl Turn<'_> {
     /// "In an auction, at one price: rank L, legs; C, customer orders and responses; N,
     /// non-customer ones; T, late legs." "Outside an auction: L, then rank R, orders by arrival."
     fn execute_at(&mut self, price: Cents, fills: &mut FillList, watch: &mut impl Watch) {
-        let legs_rank = self.legs_rank(price);
-        if legs_rank == Rank::L {
-            self.take_legs(price, Rank::L, fills);
-        }
+        self.take_legs(price, Rank::L, fills);
         match self.mode {
             Mode::Queue { .. } => {
                 self.share_rank(price, Rank::C, fills, watch);
@@ -247,20 +275,24 @@ impl Turn<'_> {
             Mode::GoingLive => self.take_by_arrival(price, fills),
             Mode::LegsPass => {}
         }
-        if legs_rank == Rank::T {
-            self.take_legs(price, Rank::T, fills);
-        }
+        self.take_legs(price, Rank::T, fills);
     }
 
+    /// The legs' units of rank L or T at a price.
     fn take_legs(&mut self, price: Cents, rank: Rank, fills: &mut FillList) {
         let Some(legs) = self.legs().filter(|legs| legs.price == price) else {
             return;
         };
+        let (early, late) = self.legs_ranks(&legs);
+        let open = if rank == Rank::L { early } else { late };
         let order = self.order();
-        let (side, units) = (order.side, order.units.min(legs.units));
+        let (side, units) = (order.side, order.units.min(open));
         if units > 0 {
             self.market.take(self.strategy, side, units);
             self.record(rank, Contra::Legs, price, units, fills);
+        }
+        if rank == Rank::L {
+            self.mode.lower_rank_l(price, units);
         }
     }
 

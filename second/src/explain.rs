@@ -5,7 +5,7 @@ use crate::average::{average, averages};
 use crate::book::{Account, Entry, Standing};
 use crate::engine::{Cause, Engine, Outcome};
 use crate::execution::{Contra, Fill, FillList, Mode, Sharing, Turn, Watch};
-use crate::market::{LocalSide, Market};
+use crate::market::{Derived, LocalSide, Market};
 use crate::message::{Message, Request, Terms};
 use crate::print::last_line;
 use crate::strategy::{
@@ -54,6 +54,7 @@ fn explain_session(tape: &Tape) -> String {
         text += &no_average_line(&message.request, &outcome, fills, &engine);
         if matches!(message.request, Request::Local { .. }) {
             text += &derived_line(&engine);
+            text += &start_line(&engine);
         }
     }
     text += "\n";
@@ -247,8 +248,10 @@ fn answer(outcome: &Outcome, message: &Message, before: &Engine, after: &Engine)
             format!("number {number}: placed, {units} units open, {fills}")
         }
         Outcome::Begun { deadline } => {
-            let start = after.auction().and_then(|auction| auction.starting_price);
-            let start = start.map_or("none".to_string(), |price| price.to_string());
+            let start = after.auction().and_then(|auction| auction.start);
+            let start = start.map_or("none".to_string(), |start| {
+                format!("{} for {} units", start.price, start.units)
+            });
             format!(
                 "number {number}: begins an auction, deadline {deadline}, derived contra price \
                  {start}"
@@ -280,6 +283,18 @@ fn derived_line(engine: &Engine) -> String {
     let bid = words(engine.market(), Side::Sell);
     let ask = words(engine.market(), Side::Buy);
     format!("  derived bid {bid}, derived ask {ask}\n")
+}
+
+/// What the starting price of a pending auction has shown so far.
+fn start_line(engine: &Engine) -> String {
+    match engine.auction().map(|auction| auction.start) {
+        Some(Some(start)) => format!(
+            "  starting price {}: the least units shown since the start are {}\n",
+            start.price, start.units
+        ),
+        Some(None) => "  no starting price\n".to_string(),
+        None => String::new(),
+    }
 }
 
 // Why a message was turned back.
@@ -433,6 +448,26 @@ fn reason(engine: &Engine, message: &Message, number: Refusal) -> String {
 
 // The turns.
 
+/// How many units of the starting price are rank L in a turn from the queue.
+fn early_line(mode: &Mode) -> String {
+    match mode {
+        Mode::Queue { start: Some(start) } => format!(
+            "    starting price {}: {} units of it are rank L\n",
+            start.price, start.units
+        ),
+        Mode::Queue { start: None } => "    no starting price: legs are rank T\n".to_string(),
+        Mode::GoingLive | Mode::LegsPass => String::new(),
+    }
+}
+
+fn legs_words(turn: &Turn, legs: &Derived) -> String {
+    match turn.legs_ranks(legs) {
+        (_, 0) => "rank L".to_string(),
+        (0, _) => "rank T".to_string(),
+        (early, late) => format!("{early} of rank L and {late} of rank T"),
+    }
+}
+
 /// The text of a message's turns.
 #[derive(Default)]
 struct Turns {
@@ -461,11 +496,12 @@ impl Watch for Turns {
         };
         if let Some(legs) = turn.legs() {
             nothing = false;
+            self.text += &early_line(turn.mode);
             self.text += &format!(
-                "    open: legs at {}, {} units, rank {}{}\n",
+                "    open: legs at {}, {} units, {}{}\n",
                 legs.price,
                 legs.units,
-                turn.legs_rank(legs.price).letter(),
+                legs_words(turn, &legs),
                 within(legs.price)
             );
         }

@@ -1,5 +1,6 @@
 //! Random tapes, the same for the same profile and seed. Each profile leans on some of the rules.
 
+mod legsize;
 pub mod random;
 mod script;
 mod sessions;
@@ -26,7 +27,7 @@ const fn profile(
     }
 }
 
-pub const PROFILES: [Profile; 29] = [
+pub const PROFILES: [Profile; 30] = [
     profile("auction", "auctions, one after another", sessions::auction),
     profile("badkind", "a message of no kind: 61", sessions::bad_kind),
     profile(
@@ -72,6 +73,11 @@ pub const PROFILES: [Profile; 29] = [
         "layout",
         "gaps, offsets, section order, unused fields",
         tapes::layout,
+    ),
+    profile(
+        "legsize",
+        "leg sizes and prices that change during an auction",
+        legsize::legsize,
     ),
     profile("long", "as many messages as a tape holds", sessions::long),
     profile("mix", "a bit of everything", sessions::mix),

@@ -2,10 +2,10 @@
 //!
 //! The modules follow the document: [`strategy`] (Strategy and series), [`market`] (Prices),
 //! [`book`] and [`engine`] (Order and auction life, Where a message is turned back),
-//! [`execution`] (Execution), [`tape`] and [`print`] (Tape); [`form`] is the written form of a tape
-//! (M-100), [`average`] an executed order's average price (M-102), and [`live`] runs a session that
-//! never has to be a tape. Nothing here reads or writes anything but its arguments; the binary does
-//! that.
+//! [`execution`] (Execution, with M-103), [`tape`] and [`print`] (Tape); [`form`] is the written
+//! form of a tape (M-100), [`average`] an executed order's average price (M-102), and [`live`] runs
+//! a session that never has to be a tape. Nothing here reads or writes anything but its arguments;
+//! the binary does that.
 
 pub mod average;
 pub mod book;

@@ -21,7 +21,7 @@ impl<T: Copy> Quote<T> {
         }
     }
 
-    fn used_by_mut(&mut self, order: Side, leg: &OpenLeg) -> &mut T {
+    pub fn used_by_mut(&mut self, order: Side, leg: &OpenLeg) -> &mut T {
         if leg.side == order {
             &mut self.ask
         } else {

@@ -1,10 +1,14 @@
 //! The random tapes use every rule: over a few seeds each refusal number, outcome, cause and rank
 //! occurs, and often enough.
 
-use second::engine::{Cause, Outcome};
+use second::engine::{Cause, Engine, Outcome};
+use second::execution::{Fill, FillList, Mode, Start, Turn, Watch};
 use second::form::form;
 use second::gen::{gen, PROFILES};
+use second::market::Derived;
+use second::message::Request;
 use second::print::run_tape;
+use second::strategy::{Leg, Side};
 use second::tape::{Field, Header, Kind, Tape, KINDS};
 use std::collections::BTreeMap;
 use std::ops::Range;
@@ -92,6 +96,10 @@ fn profiles_stress_what_they_say() {
         ("lastnumber", "refused 12"),
         ("lasttime", "refused 11"),
         ("late", "rank T"),
+        ("legsize", "joined"),
+        ("legsize", "ended by order"),
+        ("legsize", "ended by legs"),
+        ("legsize", "ended by time"),
         ("overlap", "refused 60"),
         ("prorata", "rank N"),
         ("queue", "joined"),
@@ -136,6 +144,147 @@ fn the_wrong_profile_has_every_number_of_a_message() {
     ] {
         let what = format!("refused {number:02}");
         let times = counts.get(&what).copied().unwrap_or(0);
+        assert!(times >= 5, "{what} occurs {times} times");
+    }
+}
+
+/// A queue order's turn, where the legs have a derived price.
+struct LegTurn {
+    side: Side,
+    start: Option<Start>,
+    legs: Derived,
+    /// What it took at that price, of rank L, C, N and T.
+    taken: [u32; 4],
+}
+
+/// Collects those turns.
+#[derive(Default)]
+struct LegTurns {
+    turns: Vec<LegTurn>,
+    begun: Option<LegTurn>,
+}
+
+impl Watch for LegTurns {
+    fn turn_begins(&mut self, turn: &Turn) {
+        self.begun = match (*turn.mode, turn.legs()) {
+            (Mode::Queue { start }, Some(legs)) => Some(LegTurn {
+                side: turn.order().side,
+                start,
+                legs,
+                taken: [0; 4],
+            }),
+            _ => None,
+        };
+    }
+
+    fn turn_ends(&mut self, records: &[Fill]) {
+        if let Some(mut turn) = self.begun.take() {
+            for fill in records.iter().filter(|fill| fill.price == turn.legs.price) {
+                let rank = "LCNT"
+                    .find(fill.rank.letter())
+                    .expect("a rank of the queue");
+                turn.taken[rank] += fill.units;
+            }
+            self.turns.push(turn);
+        }
+    }
+}
+
+/// How the legs came to their ranks. The starting price showed so many units at first, and so many
+/// at least.
+fn way_to_the_ranks(turn: &LegTurn, at_first: u32, at_least: u32) -> &'static str {
+    let Some(start) = turn.start else {
+        return "none at the start";
+    };
+    let there = turn.legs.units;
+    match start.units {
+        _ if turn.side.opposite().better(turn.legs.price, start.price) => "better",
+        _ if turn.legs.price != start.price => "worse",
+        0 if at_least > 0 => "all of L taken before",
+        left if left < at_least => "some of L taken before",
+        0 => "away and back",
+        _ if at_least < at_first && there > at_least => "lowered and restored",
+        _ if at_least < at_first => "lowered",
+        _ if there > at_least => "added",
+        _ => "as at the start",
+    }
+}
+
+/// What an order took from the legs and from others at their price.
+fn ranks_taken(turn: &LegTurn, ratios: &[u8]) -> Vec<&'static str> {
+    let [l, c, n, t] = turn.taken;
+    if l == 0 || t == 0 {
+        return Vec::new();
+    }
+    let buyer = turn.side == Side::Buy;
+    let words = [
+        (buyer, "L and T of a buyer"),
+        (!buyer, "L and T of a seller"),
+        (c > 0, "L, C and T"),
+        (n > 0, "L, N and T"),
+        (ratios.iter().all(|&r| r > 1), "L and T, ratios above 1"),
+    ];
+    let words = words.iter().filter(|(condition, _)| *condition);
+    words.map(|&(_, word)| word).collect()
+}
+
+/// Adds what the legs came to at the end of each auction of a tape.
+fn count_leg_sizes(bytes: &[u8], counts: &mut BTreeMap<&str, u64>) {
+    let mut add = |what: &'static str| *counts.entry(what).or_default() += 1;
+    let tape = Tape::read(bytes).expect("no refusal");
+    let legs: Vec<Leg> = tape.legs().collect();
+    let ratios: Vec<u8> = legs.iter().map(|leg| leg.ratio).collect();
+    let mut engine = Engine::open(&legs, &tape.header.settings).expect("no refusal");
+    let mut fills = vec![Fill::BLANK; FillList::LEAST_PLACES];
+    let units = |start: Option<Start>| start.map_or(0, |start| start.units);
+    let mut at_first = 0;
+    for message in tape.messages() {
+        let mut end = LegTurns::default();
+        let outcome = engine.apply_watched(&message, &mut fills, &mut end);
+        if let Outcome::Begun { .. } = outcome {
+            at_first = units(engine.auction().and_then(|auction| auction.start));
+        }
+        let by_quote = matches!(message.request, Request::Local { .. });
+        let at_least = end.turns.first().map_or(0, |turn| units(turn.start));
+        for turn in &end.turns {
+            if turn.taken[0] + turn.taken[3] > 0 {
+                add(way_to_the_ranks(turn, at_first, at_least));
+            }
+            ranks_taken(turn, &ratios).into_iter().for_each(&mut add);
+            let start = turn.start.map(|start| start.price);
+            if by_quote && start == Some(turn.legs.price) {
+                add("ended by a quote at the starting price");
+            }
+        }
+    }
+}
+
+/// Twelve tapes are enough for it.
+#[test]
+fn the_legsize_profile_has_every_way_to_the_ranks() {
+    let mut counts = BTreeMap::new();
+    for seed in 1..=12 {
+        count_leg_sizes(&gen("legsize", seed).unwrap(), &mut counts);
+    }
+    println!("{counts:#?}");
+    for what in [
+        "none at the start",
+        "better",
+        "worse",
+        "all of L taken before",
+        "some of L taken before",
+        "away and back",
+        "lowered and restored",
+        "lowered",
+        "added",
+        "L and T of a buyer",
+        "L and T of a seller",
+        "L, C and T",
+        "L, N and T",
+        "L and T, ratios above 1",
+        "ended by a quote at the starting price",
+    ] {
+        let times = counts.get(what).copied().unwrap_or(0);
         assert!(times >= 5, "{what} occurs {times} times");
     }
 }

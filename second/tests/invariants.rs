@@ -153,6 +153,14 @@ fn check_state(engine: &Engine) {
             assert!(standing(Standing::Queue).all(|e| e.side == auction.side));
             // The initiator's limit is the best of the queue.
             assert!(standing(Standing::Queue).all(|e| !e.side.better(e.limit, auction.limit)));
+            // The starting price now shows at least the least units it has shown.
+            if let Some(start) = auction.start {
+                let legs = engine
+                    .market()
+                    .derived_contra(engine.strategy(), auction.side);
+                let shown = legs.filter(|legs| legs.price == start.price);
+                assert!(start.units <= shown.map_or(0, |legs| legs.units));
+            }
         }
         None => {
             assert!(entries.iter().all(|e| e.standing == Standing::Live));

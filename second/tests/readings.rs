@@ -1273,11 +1273,11 @@ fn legs_are_late_if_better_than_at_the_start() {
     assert_eq!(rank_of_legs(&[local(0, 220, 10, 239, 10)]), "T 0 129 3");
     // Worse: all L.
     assert_eq!(rank_of_legs(&[local(0, 220, 10, 245, 10)]), "L 0 135 3");
-    // More units at the same price: all L.
+    // More units at the same price: those of the start are L still.
     assert_eq!(rank_of_legs(&[local(0, 220, 99, 240, 99)]), "L 0 130 3");
-    // Away and back: L.
+    // Away and back: T (M-103).
     let away_and_back = [local(0, 0, 0, 0, 0), local(0, 220, 10, 240, 10)];
-    assert_eq!(rank_of_legs(&away_and_back), "L 0 130 3");
+    assert_eq!(rank_of_legs(&away_and_back), "T 0 130 3");
 }
 
 #[test]

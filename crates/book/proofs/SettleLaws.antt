@@ -11,7 +11,7 @@ use native.Mathlib.Omega.{arith}
 use borrow.Author.Tests.{lt-ltb, ne-eqb}
 use lib.Dec.{eqb, ltb}
 use lib.ListN.{length, drop, getD, drop-of-length-le, List·getD-eq-default}
-use lib.Seq.{drop-cons}
+use lib.Seq.{drop-cons, getD-drop}
 use Rattle.rules.specs.Basics.{pick}
 use Rattle.rules.specs.Book.{Stage, Entry, only, withStage, lessUnits}
 use Rattle.rules.specs.State.{withBook}
@@ -51,23 +51,22 @@ units-left n =
     ]
 
 module _ (i x : ℕ) (t : Stage) (f : ℕ → Entry) (gs : List ℕ) where
-  settled-step : (k n : ℕ) → k < n → keep (afterTurn i x t (f k) (getD gs (k + 1) 0)) (settled i x t (from f (k + 1) n) (drop (k + 1 + 1) gs)) ≡ settled i x t (from f k n) (drop (k + 1) gs)
+  settled-step : (k n : ℕ) → k < n → keep (afterTurn i x t (f k) (getD gs k 0)) (settled i x t (from f (k + 1) n) (drop (k + 1) gs)) ≡ settled i x t (from f k n) (drop k gs)
   unfolding settled
-  settled-step k n h = by (head-drop gs (k + 1))
+  settled-step k n h = by (head-drop gs k)
     where
-      by : Head gs (k + 1) → keep (afterTurn i x t (f k) (getD gs (k + 1) 0)) (settled i x t (from f (k + 1) n) (drop (k + 1 + 1) gs)) ≡ settled i x t (from f k n) (drop (k + 1) gs)
+      by : Head gs k → keep (afterTurn i x t (f k) (getD gs k 0)) (settled i x t (from f (k + 1) n) (drop (k + 1) gs)) ≡ settled i x t (from f k n) (drop k gs)
       by (inl q) = rw (from-cons f k n h, q)
       by (inr q) = rw (from-cons f k n h, q .0, q .1, q .2)
 
-  -- what stands at place k + 1 is what the entry at place k gave
-  module _ (g : ℕ → Entry) (n : ℕ) (s : (k : ℕ) → k < n → g k ≡ afterTurn i x t (f k) (getD gs (k + 1) 0)) where
-    settled-from : (d k : ℕ) → n ≡ k + d → only hasUnits (from g k n) ≡ settled i x t (from f k n) (drop (k + 1) gs)
+  module _ (g : ℕ → Entry) (n : ℕ) (s : (k : ℕ) → k < n → g k ≡ afterTurn i x t (f k) (getD gs k 0)) where
+    settled-from : (d k : ℕ) → n ≡ k + d → only hasUnits (from g k n) ≡ settled i x t (from f k n) (drop k gs)
     unfolding settled
     settled-from zero k q = rw (only-end g k n hasUnits (omega arith), from-end f k n (omega arith))
     settled-from (suc d) k q =
         sym (only-step g k n hasUnits (omega arith))
         ∙ ap (λ (e : Entry). keep e (only hasUnits (from g (k + 1) n))) (s k (omega arith))
-        ∙ ap (λ (es : List Entry). keep (afterTurn i x t (f k) (getD gs (k + 1) 0)) es) (settled-from d (k + 1) (omega arith))
+        ∙ ap (λ (es : List Entry). keep (afterTurn i x t (f k) (getD gs k 0)) es) (settled-from d (k + 1) (omega arith))
         ∙ settled-step k n (omega arith)
 
 -- ---- in the words
@@ -81,26 +80,28 @@ after-turn e i n t g s q = by (eqb (e .id) i)
     by false = rw (← q)
 
 module _ (longs l m n : List ℕ) (gave : List ℕ) (id took stage : ℕ) (p : Kept L.units L.buys l m) (q : Kept L.stages L.count m n)
-    (u : (i : ℕ) → i < openCount l → getD m (L.units + i) 0 ≡ getD l (L.units + i) 0 - pick (eqb (getD l (L.ids + i) 0) id) took (getD gave (i + 1) 0))
+    (u : (i : ℕ) → i < openCount l → getD m (L.units + i) 0 ≡ getD l (L.units + i) 0 - pick (eqb (getD l (L.ids + i) 0) id) took (getD gave (i + 2) 0))
     (t : (i : ℕ) → i < openCount m → getD n (L.stages + i) 0 ≡ pick (eqb (getD m (L.ids + i) 0) id) stage (getD m (L.stages + i) 0)) where
   same-count : openCount n ≡ openCount l
   same-count = ap (λ (x : ℕ). min x 64) (q .above L.count (omega arith) ∙ p .above L.count (omega arith))
 
-  -- both passes, at a place
-  turned-at : (i : ℕ) → i < openCount l → entryAt longs n i ≡ afterTurn id took (stageOf stage) (entryAt longs l i) (getD gave (i + 1) 0)
+  -- both passes, at a place: what stands at i + 2 is what the entry at place i gave
+  turned-at : (i : ℕ) → i < openCount l → entryAt longs n i ≡ afterTurn id took (stageOf stage) (entryAt longs l i) (getD (drop 2 gave) i 0)
   turned-at i h =
       let c : openCount m ≡ openCount l = ap (λ (x : ℕ). min x 64) (p .above L.count (omega arith)) in
+      let z : 2 + i ≡ i + 2 = omega arith in
+      let g : getD (drop 2 gave) i 0 ≡ getD gave (i + 2) 0 = rw z at (getD-drop 2 gave i 0) in
       let s : getD n (L.stages + i) 0 ≡ pick (eqb (getD l (L.ids + i) 0) id) stage (getD l (L.stages + i) 0) = rw (← p .below (L.ids + i) (omega arith), ← p .above (L.stages + i) (omega arith)) (t i (omega arith)) in
-      entry-turned longs l n i _ _ (omega arith) (λ j r. q .below j (omega arith) ∙ p .below j r) (λ j r v. q .below j v ∙ p .above j r) (q .below (L.units + i) (omega arith) ∙ u i h) (ap stageOf s)
-      ∙ after-turn (entryAt longs l i) id took stage (getD gave (i + 1) 0) (getD l (L.stages + i) 0) refl
+      rw g (entry-turned longs l n i _ _ (omega arith) (λ j r. q .below j (omega arith) ∙ p .below j r) (λ j r v. q .below j v ∙ p .above j r) (q .below (L.units + i) (omega arith) ∙ u i h) (ap stageOf s)
+      ∙ after-turn (entryAt longs l i) id took stage (getD gave (i + 2) 0) (getD l (L.stages + i) 0) refl)
 
   -- the passes, then the entries with units left
   pub settled-by : (b k : List ℕ) → KeptBy (λ i. not (eqb (getD n (L.units + i) 0) 0)) longs n b k
-      → stateOf b k ≡ withBook (stateOf longs l) (settled id took (stageOf stage) (entriesOf longs l) (drop 1 gave))
+      → stateOf b k ≡ withBook (stateOf longs l) (settled id took (stageOf stage) (entriesOf longs l) (drop 2 gave))
   settled-by b k r =
-      becomes longs l b k (settled id took (stageOf stage) (entriesOf longs l) (drop 1 gave)) (r .longs)
+      becomes longs l b k (settled id took (stageOf stage) (entriesOf longs l) (drop 2 gave)) (r .longs)
       (kept-then L.ids L.bids L.ids L.bids L.ids L.bids l n k (omega arith) (omega arith) (omega arith) (omega arith)
       (kept-then L.ids L.bids L.units L.buys L.stages L.count l m n (omega arith) (omega arith) (omega arith) (omega arith) p q) (r .words))
       (r .entries hasUnits (λ i h. units-left (getD n (L.units + i) 0))
       ∙ ap (λ (x : ℕ). only hasUnits (from (entryAt longs n) 0 x)) same-count
-      ∙ settled-from id took (stageOf stage) (entryAt longs l) gave (entryAt longs n) (openCount l) turned-at (openCount l) 0 (omega arith))
+      ∙ settled-from id took (stageOf stage) (entryAt longs l) (drop 2 gave) (entryAt longs n) (openCount l) turned-at (openCount l) 0 (omega arith))

@@ -266,10 +266,10 @@ fn units_after(own: bool, units: u32, took: u32, gave: u32) -> u32
     }
 }
 
-// The units after a turn; what the entry at place k gave stands at k + 1.
-fn spend(words: &mut [u32], gave: &[u32; 65], id: u32, took: u32)
+// The units after a turn; what the entry at place k gave stands at k + 2.
+fn spend(words: &mut [u32], gave: &[u32; 66], id: u32, took: u32)
     requires { ⌜ WordsSized (now words) ⌝ }
-    ensures { λ _. ⌜ Kept L.units L.buys (now (words .entry)) (now (words .exit)) × ((i : ℕ) → i < openCount (now (words .entry)) → getD (now (words .exit)) (L.units + i) 0 ≡ getD (now (words .entry)) (L.units + i) 0 - pick (eqb (getD (now (words .entry)) (L.ids + i) 0) id) took (getD (now (gave .entry)) (i + 1) 0)) ⌝ }
+    ensures { λ _. ⌜ Kept L.units L.buys (now (words .entry)) (now (words .exit)) × ((i : ℕ) → i < openCount (now (words .entry)) → getD (now (words .exit)) (L.units + i) 0 ≡ getD (now (words .entry)) (L.units + i) 0 - pick (eqb (getD (now (words .entry)) (L.ids + i) 0) id) took (getD (now (gave .entry)) (i + 2) 0)) ⌝ }
 {
     let m = state::open_count(words);
     let mut k = 0;
@@ -278,7 +278,7 @@ fn spend(words: &mut [u32], gave: &[u32; 65], id: u32, took: u32)
             words[Book::IDS + k] == id,
             words[Book::UNITS + k],
             took,
-            gave[k + 1],
+            gave[k + 2],
         );
         k += 1;
     }
@@ -323,13 +323,13 @@ fn drop_filled(longs: &mut [u64], words: &mut [u32])
 pub fn settle(
     longs: &mut [u64],
     words: &mut [u32],
-    gave: &[u32; 65],
+    gave: &[u32; 66],
     id: u32,
     took: u32,
     stage: u32,
 )
     requires { ⌜ Sized (now longs) (now words) ⌝ }
-    ensures { λ _. ⌜ Becomes longs words (λ s. withBook s (settled id took (stageOf stage) (s .book) (drop 1 (now (gave .entry))))) ⌝ }
+    ensures { λ _. ⌜ Becomes longs words (λ s. withBook s (settled id took (stageOf stage) (s .book) (drop 2 (now (gave .entry))))) ⌝ }
 {
     spend(words, gave, id, took);
     restage(words, id, stage);

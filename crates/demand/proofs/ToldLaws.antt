@@ -14,7 +14,7 @@ use Rattle.rules.specs.Outcome as O
 use Rattle.rules.specs.Messages.{Body, local, national, order, response, modify, cancel, clock, Message}
 use Rattle.rules.specs.State.{State, taken}
 use Rattle.rules.specs.Refusals.{leastRoom, refusal}
-use Rattle.rules.specs.Step.{Act, goesOn, begins, joining, ends, takeIn, follow, answered, plain, recordsOf, Answer, acted, accepted, turnedBack, step}
+use Rattle.rules.specs.Step.{Act, goesOn, begins, joining, ends, takeIn, follow, answered, plain, recordsOf, Answer, watched, acted, accepted, turnedBack, step}
 use Rattle.rules.specs.Strategy as S
 use Rattle.rules.specs.Run.{Opened, started, startOf, opening, Sent, answerTo, answers, after}
 use Rattle.rules.specs.Tape.{Tape, reads, tapeOf}
@@ -24,7 +24,9 @@ use Rattle.rules.specs.Average.{averageFor, Says, GoodAverages, AveragesAreExac
 use Rattle.rules.specs.Bound.{RecordsFit}
 use Rattle.rules.specs.Arrival.{noArrivals, AllStand, RecordsByArrivalOfRules, RecordsAreFixed}
 use Rattle.rules.proofs.RunLaws.{opened, demand-3-of-rules}
+use Rattle.rules.specs.LegsKept.{LegsKeptOfRules}
 use Rattle.rules.proofs.BoundLaws.{records-fit}
+use Rattle.rules.proofs.KeptLaws.{legs-kept-of-rules}
 use Rattle.rules.proofs.AverageLaws.{averages-are-exact-of-rules}
 use Rattle.rules.proofs.ArrivalLaws.{records-by-arrival-of-rules, records-are-fixed}
 use Rattle.types.specs.declared.Opening.{Opening}
@@ -42,7 +44,7 @@ use Rattle.text.proofs.FillLaws.{records-known}
 use Rattle.fills.specs.Fills.{storedRank, storedContra, storedFill, written}
 use Rattle.text.specs.Text.{linesText}
 use Rattle.session.specs.Lines.{sent, tapeText}
-use Rattle.demand.specs.Engine.{Taken, byStep, byApply, longsAfter, wordsAfter, listAfter, sentOf, fillCount, outcomeBy, toldBy, Run, over, then, sents, told, saidBy, endOf, Copy, Demand3, RecordsByArrival, Asked, AllAsked, AveragesAreExact, linesBy, textBy, Alike, ListIsFixed}
+use Rattle.demand.specs.Engine.{Taken, byStep, byApply, longsAfter, wordsAfter, listAfter, sentOf, fillCount, outcomeBy, toldBy, Run, over, then, sents, told, saidBy, endOf, Copy, Demand3, RecordsByArrival, Asked, AllAsked, AveragesAreExact, LegsKept, linesBy, textBy, Alike, ListIsFixed}
 
 -- ---- the fill count of an outcome is the number of its records
 
@@ -67,7 +69,7 @@ unfolding step accepted acted
 step-count s m room = by (eqb (refusal s m room) 0)
   where
     by : (x : Bool) → fillCount (pick x (accepted s m) (turnedBack s (refusal s m room)) .outcome) ≡ length (pick x (accepted s m) (turnedBack s (refusal s m room)) .fills)
-    by true = let i = takeIn (taken s (m .time)) (m .body) in answered-count (m .body) (i .state) (i .act)
+    by true = let i = takeIn (taken s (m .time)) (m .body) in answered-count (m .body) (watched (m .body) (i .state)) (i .act)
     by false = refl
 
 -- a refused message has none
@@ -258,6 +260,10 @@ averages-are-exact o c =
 pub records-by-arrival : RecordsByArrival
 unfolding RecordsByArrival RecordsByArrivalOfRules
 records-by-arrival o c = of-rules o c (AllStand noArrivals) (records-by-arrival-of-rules (openingOf o))
+
+pub legs-kept : LegsKept
+unfolding LegsKept LegsKeptOfRules
+legs-kept o c p e = legs-kept-of-rules (openingOf o) (startOf (openingOf o)) (started-is o c) (sents (c .run)) p .0 (ap (λ (s : State). s .auction) (sym (end-from o c)) ∙ e)
 
 only-told : (o : Opening) (c : Copy o) (rss : List (List U.Fill)) → Good (startOf (openingOf o)) (sents (c .run)) rss → AllStand noArrivals (startOf (openingOf o)) (sents (c .run)) rss → rss ≡ told (c .run)
 unfolding RecordsAreFixed

@@ -1,4 +1,4 @@
--- Demand 3, M-101 and M-102 about the engine: claims about an opening and a list of messages, each taken in place by `step` or by `apply`.
+-- Demand 3 and M-101 to M-103 about the engine: claims about an opening and a list of messages, each taken in place by `step` or by `apply`.
 use mathlib.Core.Path.{_≡_}
 use mathlib.Core.List.{List, [], _∷_, _++_, map}
 use Prim.Native.Nat.{ℕ, _+_}
@@ -7,13 +7,14 @@ use Rattle.rules.specs.Basics.{All}
 use Rattle.rules.specs.Messages as M
 use Rattle.rules.specs.Outcome as O
 use Rattle.rules.specs.Turn as U
-use Rattle.rules.specs.State.{State}
+use Rattle.rules.specs.State.{Pending, pending, State}
 use Rattle.rules.specs.Run.{Sent, startOf}
 use Rattle.rules.specs.Tape.{reads, tapeOf}
 use Rattle.rules.specs.Print.{Line, titleLine, recordLines, refusedLines, closing}
 use Rattle.rules.specs.Demand.{Good}
 use Rattle.rules.specs.Arrival.{noArrivals, AllStand}
 use Rattle.rules.specs.Average.{Says, GoodAverages}
+use Rattle.rules.specs.LegsKept.{readings, KeptSince}
 use Rattle.types.specs.declared.Opening.{Opening}
 use Rattle.types.specs.declared.Message.{Message}
 use Rattle.types.specs.declared.Fill.{Fill}
@@ -150,6 +151,10 @@ AllAsked (then longs words a run) = Asked a × AllAsked run
 -- M-102: in every answer the averages of the engine's records are exact, and so is the one that an order is told
 unfoldable pub AveragesAreExact : Type 0
 AveragesAreExact = (o : Opening) (c : Copy o) → All GoodAverages (told (c .run)) × AllAsked (c .run)
+
+-- M-103: what a copy keeps of the legs while an auction is pending is the starting price with the least units that it has shown, by the states that the messages lead to
+unfoldable pub LegsKept : Type 0
+LegsKept = (o : Opening) (c : Copy o) (p : Pending) → endOf (c .run) .auction ≡ pending p → KeptSince (p .buy) (readings (startOf (openingOf o)) (sents (c .run)) []) (p .start)
 
 -- ---- what tapeprint writes of what a copy answers
 

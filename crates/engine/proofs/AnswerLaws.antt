@@ -15,7 +15,7 @@ use Rattle.rules.specs.Outcome.{byTime, byOrder, byLegs, Refused}
 use Rattle.rules.specs.Refusals.{leastRoom, refusal}
 use Rattle.rules.specs.Execution.{Reply, still}
 use Rattle.rules.specs.Step as R
-use Rattle.rules.specs.Step.{ends, Intake, takeIn, ending, follow, recordsOf, acted, accepted, step}
+use Rattle.rules.specs.Step.{ends, Intake, takeIn, ending, follow, recordsOf, watched, acted, accepted, step}
 use Rattle.rules.proofs.BoundLaws.{acted-fits}
 use Rattle.types.specs.View.{outcomeOf}
 use Rattle.types.proofs.TableLaws.{from-length, from-end}
@@ -53,13 +53,13 @@ few l w m =
     let z : openCount w - 0 ≤ 64 = omega arith in
     acted-fits (taken (stateOf l w) (m .time)) (m .body) (rw (from-length (entryAt l w) 0 (openCount w)) z) .0
 
-module _ (l l₁ w l₂ w₂ list l₃ w₃ list′ : List ℕ) (act n : ℕ) (m : Message) (t : stateOf l₁ w ≡ taken (stateOf l w) (m .time)) (i : Takes (stateOf l₁ w) (stateOf l₂ w₂) act (λ s. takeIn s (m .body))) (g : Goes l₂ w₂ list 0 l₃ w₃ list′ n (λ s. follow s (actOf act))) where
+module _ (l l₁ w : List ℕ) (u : State) (l₂ w₂ list l₃ w₃ list′ : List ℕ) (act n : ℕ) (m : Message) (t : stateOf l₁ w ≡ taken (stateOf l w) (m .time)) (i : Takes (stateOf l₁ w) u act (λ s. takeIn s (m .body))) (v : stateOf l₂ w₂ ≡ watched (m .body) u) (g : Goes l₂ w₂ list 0 l₃ w₃ list′ n (λ s. follow s (actOf act))) where
   abbrev taken-in : Intake
   taken-in = takeIn (taken (stateOf l w) (m .time)) (m .body)
 
-  replies : follow (stateOf l₂ w₂) (actOf act) ≡ follow (taken-in .state) (taken-in .act)
+  replies : follow (stateOf l₂ w₂) (actOf act) ≡ follow (watched (m .body) (taken-in .state)) (taken-in .act)
   replies =
-      (λ j. follow (i .state j) (i .act j)) ∙ ap (λ (s : State). let x = takeIn s (m .body) in follow (x .state) (x .act)) t
+      (λ j. follow ((v ∙ ap (watched (m .body)) (i .state)) j) (i .act j)) ∙ ap (λ (s : State). let x = takeIn s (m .body) in follow (watched (m .body) (x .state)) (x .act)) t
 
   pub accepted-records : Adds list 0 list′ n (accepted (stateOf l w) m .fills)
   unfolding accepted acted

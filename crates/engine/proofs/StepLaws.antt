@@ -17,7 +17,8 @@ use Rattle.rules.specs.Step.{deadlineOf}
 use Rattle.rules.proofs.TestLaws.{lt-of, and-left, and-right, or-no}
 use Rattle.rules.proofs.RowLaws.{isNumbered, NoneOf, none-of}
 use Rattle.state.specs.Layout as L
-use Rattle.state.specs.View.{flag, auctionOf, strategyOf, marketOf, entriesOf, stateOf}
+use Rattle.state.specs.Layout.{LongsSized}
+use Rattle.state.specs.View.{flag, pendingOf, auctionOf, strategyOf, marketOf, entriesOf, stateOf}
 use Rattle.state.proofs.StoreLaws.{kept-all, kept-set}
 use Rattle.state.proofs.StateLaws.{clock-alone, sized-is}
 use Rattle.records.specs.Records.{width}
@@ -51,7 +52,7 @@ passes s m room h =
 
 -- ---- the clock and the auction
 
-pub taken-longs : (l words : List ℕ) (time : ℕ) → length l ≡ 70 → time ≤ mostTime → stateOf (set (set l L.next (getD l L.next 0 + 1)) L.time time) words ≡ taken (stateOf l words) time
+pub taken-longs : (l words : List ℕ) (time : ℕ) → LongsSized l → time ≤ mostTime → stateOf (set (set l L.next (getD l L.next 0 + 1)) L.time time) words ≡ taken (stateOf l words) time
 taken-longs l words time h t =
     let a : List ℕ = set l L.next (getD l L.next 0 + 1) in
     let b : List ℕ = set a L.time time in
@@ -64,6 +65,6 @@ taken-longs l words time h t =
 pub deadline-words : (longs words : List ℕ) → deadlineOf (auctionOf longs words) ≡ pick (flag (getD words L.pending 0)) (getD longs L.deadline 0) 0
 deadline-words longs words = go (flag (getD words L.pending 0))
   where
-    go : (b : Bool) → deadlineOf (pick b (pending (record { buy = flag (getD words L.buy 0); deadline = getD longs L.deadline 0; start = record { price = getD longs L.startPrice 0; units = getD words L.startUnits 0 } ∷ [] })) none) ≡ pick b (getD longs L.deadline 0) 0
+    go : (b : Bool) → deadlineOf (pick b (pending (pendingOf longs words)) none) ≡ pick b (getD longs L.deadline 0) 0
     go true = refl
     go false = refl

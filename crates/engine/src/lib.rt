@@ -129,6 +129,7 @@ fn accepted(longs: &mut [u64], words: &mut [u32], list: &mut [u64], m: Message) 
     let body = m.body;
     take(longs, m.time);
     let act = intake::take_in(longs, words, body);
+    intake::watch(longs, words, body);
     let count = follow(longs, words, list, act);
     let outcome = outcome_of(longs, words, body, act, count);
     Answer { count, outcome }

@@ -6,3 +6,4 @@ pub mod ExecuteLaws
 pub mod GoesLaws
 pub mod ServeLaws
 pub mod OpenLaws
+pub mod KeptLaws

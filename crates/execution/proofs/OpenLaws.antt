@@ -1,12 +1,12 @@
 -- What is open to an order, slot by slot: modes and stages as numbers, an offer from its tier and units, and what is open to an order as a table.
 use mathlib.Core.Path.{_≡_, refl, ap, ap₂, sym, _∙_}
-use mathlib.Core.Bool.{false, not}
-use mathlib.Core.List.{List, _∷_}
+use mathlib.Core.Bool.{not}
+use mathlib.Core.List.{List, [], _∷_, _++_}
 use Prim.Native.Nat.{ℕ, zero, suc, _+_, _-_, _*_, _/_, _%_, _≤_, _<_}
 use native.Mathlib.Decide.{ℕ-discrete}
 use native.Mathlib.Omega.{arith}
 use borrow.Author.Count.{below-more}
-use borrow.Author.Tests.{ne-eqb}
+use borrow.Author.Tests.{ne-eqb, lt-ltb, le-ltb}
 use lib.Dec.{eqb}
 use lib.ListN.{length, getD, set}
 use lib.Seq.{getD-set-same, getD-set-other}
@@ -14,14 +14,14 @@ use Rattle.rules.specs.Prices.{Derived}
 use Rattle.rules.specs.Book.{Stage, held, live, queued, answer, Entry}
 use Rattle.rules.specs.State.{contraPrice}
 use Rattle.rules.specs.Turn.{Rank, L, C, N, T, R, rankNumber, legs, entry, keyOf, Offer, tier}
-use Rattle.rules.specs.Execution.{Mode, fromQueue, goingLive, legsPass, opens, offersOf, legsOffer, upTo, allUpTo, interest, inside}
+use Rattle.rules.specs.Execution.{Mode, fromQueue, goingLive, legsPass, opens, offersOf, legsLead, splitOffers, allUpTo, interest, inside}
 use Rattle.rules.proofs.TestLaws.{pick-both}
 use Rattle.types.specs.View.{upto, from, stageOf}
 use Rattle.types.proofs.TableLaws.{from-cons}
 use Rattle.state.specs.View.{entryAt, openCount, auctionOf, stateOf}
 use Rattle.state.proofs.TableLaws.{from-same}
 use Rattle.records.specs.Records.{rankFrom}
-use Rattle.execution.specs.Slots.{modeOf, offerIn, offersIn, Ranked, bookOffer, Stand}
+use Rattle.execution.specs.Slots.{modeOf, offerIn, offersIn, Ranked, legsWithin, bookOffer, Stand}
 
 -- ---- modes and stages
 
@@ -74,71 +74,94 @@ rank-most k R = omega arith
 
 -- ---- the loop over the book
 
-pub stand-next : (offer : ℕ → Offer) (i : ℕ) (ps us : List ℕ) (x y : ℕ) → i + 1 < length ps → i + 1 < length us → x ≡ tier (offer i) → y ≡ offer i .units
-    → Stand offer i ps us → Stand offer (i + 1) (set ps (i + 1) x) (set us (i + 1) y)
+pub stand-next : (offer : ℕ → Offer) (i : ℕ) (ps us : List ℕ) (x y : ℕ) → i + 2 < length ps → i + 2 < length us → x ≡ tier (offer i) → y ≡ offer i .units
+    → Stand offer i ps us → Stand offer (i + 1) (set ps (i + 2) x) (set us (i + 2) y)
 stand-next offer i ps us x y hp hu ex ey s =
-    below-more (λ j. (getD (set ps (i + 1) x) (j + 1) 0 ≡ tier (offer j)) × (getD (set us (i + 1) y) (j + 1) 0 ≡ offer j .units)) i
-    (λ j h. (getD-set-other ps (i + 1) (j + 1) x 0 (λ e. omega arith) ∙ s j h .0, getD-set-other us (i + 1) (j + 1) y 0 (λ e. omega arith) ∙ s j h .1))
-    (getD-set-same ps (i + 1) x 0 hp ∙ ex, getD-set-same us (i + 1) y 0 hu ∙ ey)
+    below-more (λ j. (getD (set ps (i + 2) x) (j + 2) 0 ≡ tier (offer j)) × (getD (set us (i + 2) y) (j + 2) 0 ≡ offer j .units)) i
+    (λ j h. (getD-set-other ps (i + 2) (j + 2) x 0 (λ e. omega arith) ∙ s j h .0, getD-set-other us (i + 2) (j + 2) y 0 (λ e. omega arith) ∙ s j h .1))
+    (getD-set-same ps (i + 2) x 0 hp ∙ ex, getD-set-same us (i + 2) y 0 hu ∙ ey)
 
 -- ---- what is open to an order, as a table
 
--- one slot on
-upto-next : {A : Type 0} (f g : ℕ → A) → ((i : ℕ) → f (i + 1) ≡ g i) → (k n : ℕ) → upto f (k + 1) n ≡ upto g k n
+-- two stores at the front of a list
+first-two : (l : List ℕ) (x y : ℕ) → 1 < length l → (getD (set (set l 0 x) 1 y) 0 0 ≡ x) × (getD (set (set l 0 x) 1 y) 1 0 ≡ y) × ((i : ℕ) → getD (set (set l 0 x) 1 y) (suc (suc i)) 0 ≡ getD l (suc (suc i)) 0)
+first-two [] x y h = absurd (omega arith)
+first-two (a ∷ []) x y h = absurd (omega arith)
+first-two (a ∷ b ∷ l) x y h = (refl, refl, λ i. refl)
+
+-- some slots on
+upto-on : {A : Type 0} (a : ℕ) (f g : ℕ → A) → ((i : ℕ) → f (i + a) ≡ g i) → (k n : ℕ) → upto f (k + a) n ≡ upto g k n
 unfolding upto
-upto-next f g p k zero = refl
-upto-next f g p k (suc n) = ap₂ (λ x l. x ∷ l) (p k) (upto-next f g p (k + 1) n)
+upto-on a f g p k zero = refl
+upto-on a f g p k (suc n) = let z : k + a + 1 ≡ k + 1 + a = omega arith in rw z (ap₂ (λ x l. x ∷ l) (p k) (upto-on a f g p (k + 1) n))
 
 -- the order at place k, where d is its derived contra price
 module _ (m : Mode) (longs words : List ℕ) (k : ℕ) (d : Derived) (D : d ≡ contraPrice (stateOf longs words) (entryAt longs words k .buy)) where
-  -- the legs' offer within its limit
-  abbrev first : Offer
-  first = let o = entryAt longs words k in upTo (keyOf (o .buy) (o .price)) (legsOffer m (auctionOf longs words) (o .buy) d)
+  abbrev ofLegs : Rank → ℕ → Offer
+  ofLegs r n = legsWithin longs words k (d .price) r n
+
+  -- how many units are of rank L
+  abbrev lead : ℕ
+  lead = legsLead m (auctionOf longs words) (entryAt longs words k .buy) d
 
   -- the offer in a slot
   abbrev table : ℕ → Offer
-  table zero = first
-  table (suc i) = bookOffer m longs words k i
+  table zero = ofLegs L lead
+  table (suc zero) = ofLegs T (d .units - lead)
+  table (suc (suc i)) = bookOffer m longs words k i
 
   upto-book : (j n : ℕ) → allUpTo (keyOf (entryAt longs words k .buy) (entryAt longs words k .price)) (offersOf m (entryAt longs words k) (upto (entryAt longs words) j n)) ≡ upto (bookOffer m longs words k) j n
   unfolding upto
   upto-book j zero = refl
   upto-book j (suc n) = ap (λ (l : List Offer). bookOffer m longs words k j ∷ l) (upto-book (j + 1) n)
 
-  inside-table : inside m (stateOf longs words) (entryAt longs words k) ≡ from table 0 (openCount words + 1)
+  inside-table : inside m (stateOf longs words) (entryAt longs words k) ≡ from table 0 (openCount words + 2)
   unfolding interest
   inside-table =
       let n : ℕ = openCount words in
       let o : Entry = entryAt longs words k in
-      let q : n + 1 - (0 + 1) ≡ n - 0 = omega arith in
-      let one : (i : ℕ) → table (i + 1) ≡ bookOffer m longs words k i = λ i. (let z : i + 1 ≡ suc i = omega arith in ap table z) in
-      ap (λ (x : Derived). upTo (keyOf (o .buy) (o .price)) (legsOffer m (auctionOf longs words) (o .buy) x) ∷ allUpTo (keyOf (o .buy) (o .price)) (offersOf m o (from (entryAt longs words) 0 n))) (sym D)
-      ∙ ap (λ (l : List Offer). first ∷ l) (upto-book 0 (n - 0) ∙ sym (rw q (upto-next table (bookOffer m longs words k) one 0 (n - 0))))
-      ∙ sym (from-cons table 0 (n + 1) (omega arith))
+      let q : n + 2 - (0 + 2) ≡ n - 0 = omega arith in
+      let on : (i : ℕ) → table (i + 2) ≡ bookOffer m longs words k i = λ i. (let z : i + 2 ≡ suc (suc i) = omega arith in ap table z) in
+      ap (λ (x : Derived). allUpTo (keyOf (o .buy) (o .price)) (splitOffers (legsLead m (auctionOf longs words) (o .buy)) (o .buy) (x ∷ []) ++ offersOf m o (from (entryAt longs words) 0 n))) (sym D)
+      ∙ ap (λ (l : List Offer). table 0 ∷ table 1 ∷ l) (upto-book 0 (n - 0) ∙ sym (rw q (upto-on 2 table (bookOffer m longs words k) on 0 (n - 0))))
+      ∙ sym (from-cons table 0 (n + 2) (omega arith) ∙ ap (λ (l : List Offer). table 0 ∷ l) (from-cons table 1 (n + 2) (omega arith)))
 
   -- an offer from its slot
-  offer-is : (ps us : List ℕ) (s : ℕ) → getD ps s 0 ≡ tier (table s) → getD us s 0 ≡ table s .units → offerIn longs words (d .price) ps us s ≡ table s
-  offer-is ps us s p u = go s (ap (λ (x : ℕ). x / 8) p ∙ key-back (table s .key) (table s .rank)) (ap (λ (x : ℕ). rankFrom (x % 8)) p ∙ rank-back (table s .key) (table s .rank)) u
-    where
-      go : (s : ℕ) → getD ps s 0 / 8 ≡ table s .key → rankFrom (getD ps s 0 % 8) ≡ table s .rank → getD us s 0 ≡ table s .units → offerIn longs words (d .price) ps us s ≡ table s
-      go zero a b c = λ i. record { contra = legs; price = d .price; key = a i; rank = b i; units = c i; arrival = 0 }
-      go (suc j) a b c =
-          let z : eqb (suc j) 0 ≡ false = ne-eqb (suc j) 0 (λ x. omega arith) in
-          let q : suc j - 1 ≡ j = omega arith in
-          rw (z, q) (λ i. record { contra = entry (entryAt longs words j .id); price = entryAt longs words j .price; key = a i; rank = b i; units = c i; arrival = entryAt longs words j .arrival })
+  module _ (ps us : List ℕ) where
+    abbrev In : ℕ → Offer → Type 0
+    In s e = (getD ps s 0 ≡ tier e) × (getD us s 0 ≡ e .units)
 
-  -- the legs' slot, and those of the book
-  module _ (ps us : List ℕ) (x y : ℕ) (hp : 0 < length ps) (hu : 0 < length us) (ex : x ≡ tier first) (ey : y ≡ first .units) (book : Stand (bookOffer m longs words k) (openCount words) ps us) where
-    slot : (s : ℕ) → s < openCount words + 1 → (getD (set ps 0 x) s 0 ≡ tier (table s)) × (getD (set us 0 y) s 0 ≡ table s .units)
-    slot zero h = (getD-set-same ps 0 x 0 hp ∙ ex, getD-set-same us 0 y 0 hu ∙ ey)
-    slot (suc i) h =
-        let z : i + 1 ≡ suc i = omega arith in
+    key-in : (s : ℕ) (e : Offer) → In s e → getD ps s 0 / 8 ≡ e .key
+    key-in s e h = ap (λ (x : ℕ). x / 8) (h .0) ∙ key-back (e .key) (e .rank)
+
+    rank-in : (s : ℕ) (e : Offer) → In s e → rankFrom (getD ps s 0 % 8) ≡ e .rank
+    rank-in s e h = ap (λ (x : ℕ). rankFrom (x % 8)) (h .0) ∙ rank-back (e .key) (e .rank)
+
+    legs-in : (s : ℕ) (r : Rank) (n : ℕ) → s < 2 → In s (ofLegs r n) → offerIn longs words (d .price) ps us s ≡ ofLegs r n
+    legs-in s r n b h = rw (lt-ltb s 2 b) (λ i. record { contra = legs; price = d .price; key = key-in s (ofLegs r n) h i; rank = rank-in s (ofLegs r n) h i; units = h .1 i; arrival = 0 })
+
+    offer-is : (s : ℕ) → In s (table s) → offerIn longs words (d .price) ps us s ≡ table s
+    offer-is zero h = legs-in 0 L lead (omega arith) h
+    offer-is (suc zero) h = legs-in 1 T (d .units - lead) (omega arith) h
+    offer-is (suc (suc j)) h =
+        let e : Entry = entryAt longs words j in
+        let q : suc (suc j) - 2 ≡ j = omega arith in
+        rw (le-ltb (suc (suc j)) 2 (omega arith), q) (λ i. record { contra = entry (e .id); price = e .price; key = key-in (suc (suc j)) (table (suc (suc j))) h i; rank = rank-in (suc (suc j)) (table (suc (suc j))) h i; units = h .1 i; arrival = e .arrival })
+
+  -- the legs' slots, and those of the book
+  module _ (ps us : List ℕ) (x y u v : ℕ) (hp : 1 < length ps) (hu : 1 < length us) (ex : x ≡ tier (table 0)) (ey : y ≡ tier (table 1)) (eu : u ≡ table 0 .units) (ev : v ≡ table 1 .units)
+      (book : Stand (bookOffer m longs words k) (openCount words) ps us) where
+    slot : (s : ℕ) → s < openCount words + 2 → In (set (set ps 0 x) 1 y) (set (set us 0 u) 1 v) s (table s)
+    slot zero h = (first-two ps x y hp .0 ∙ ex, first-two us u v hu .0 ∙ eu)
+    slot (suc zero) h = (first-two ps x y hp .1 ∙ ey, first-two us u v hu .1 ∙ ev)
+    slot (suc (suc i)) h =
+        let z : i + 2 ≡ suc (suc i) = omega arith in
         let w = rw z at (book i (omega arith)) in
-        (getD-set-other ps 0 (suc i) x 0 (λ e. omega arith) ∙ w .0, getD-set-other us 0 (suc i) y 0 (λ e. omega arith) ∙ w .1)
+        (first-two ps x y hp .2 i ∙ w .0, first-two us u v hu .2 i ∙ w .1)
 
-    pub slots-ranked : Ranked (openCount words + 1) (set ps 0 x)
+    pub slots-ranked : Ranked (openCount words + 2) (set (set ps 0 x) 1 y)
     slots-ranked s h = rw (slot s h .0) (rank-most (table s .key) (table s .rank))
 
-    pub slots-are : offersIn longs words (d .price) (set ps 0 x) (set us 0 y) (openCount words + 1) ≡ inside m (stateOf longs words) (entryAt longs words k)
+    pub slots-are : offersIn longs words (d .price) (set (set ps 0 x) 1 y) (set (set us 0 u) 1 v) (openCount words + 2) ≡ inside m (stateOf longs words) (entryAt longs words k)
     slots-are =
-        from-same (offerIn longs words (d .price) (set ps 0 x) (set us 0 y)) table 0 (openCount words + 1) (λ s a h. offer-is (set ps 0 x) (set us 0 y) s (slot s h .0) (slot s h .1)) ∙ sym inside-table
+        from-same (offerIn longs words (d .price) (set (set ps 0 x) 1 y) (set (set us 0 u) 1 v)) table 0 (openCount words + 2) (λ s a h. offer-is (set (set ps 0 x) 1 y) (set (set us 0 u) 1 v) s (slot s h)) ∙ sym inside-table

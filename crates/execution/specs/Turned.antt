@@ -3,7 +3,7 @@ use mathlib.Core.Path.{_≡_}
 use mathlib.Core.List.{List, [], _∷_}
 use Prim.Native.Nat.{ℕ, _+_, _-_, _≤_}
 use denote.Ref.{now}
-use lib.Dec.{eqb, ltb}
+use lib.Dec.{ltb}
 use lib.ListN.{length, getD, take}
 use Rattle.rules.specs.Basics.{pick, sum}
 use Rattle.rules.specs.Prices.{cents, Derived}
@@ -25,8 +25,8 @@ slotRecord number order price words rank s units =
       number = number;
       order = order;
       rank = rankFrom rank;
-      contra = pick (eqb s 0) legs (entry (getD words (L.ids + (s - 1)) 0));
-      price = cents (pick (eqb s 0) price (getD words (L.prices + (s - 1)) 0));
+      contra = pick (ltb s 2) legs (entry (getD words (L.ids + (s - 2)) 0));
+      price = cents (pick (ltb s 2) price (getD words (L.prices + (s - 2)) 0));
       units = units;
     }
 
@@ -36,7 +36,7 @@ slotRecords number order price words rank s units = pick (ltb 0 units) (slotReco
 
 -- the first n slots stand at these tiers, and records can be written of what they give an order
 abbrev pub Slotted : List ℕ → List ℕ → Order → ℕ → Type 0
-Slotted words tiers o n = WordsSized words × (o .legs ≤ mostGiven) × (n ≤ 65) × (length tiers ≡ 65) × Ranked n tiers
+Slotted words tiers o n = WordsSized words × (o .legs ≤ mostGiven) × (n ≤ 66) × (length tiers ≡ 66) × Ranked n tiers
 
 -- the records of those at tier k are added, by their grants: neither arrivals nor units are read
 abbrev pub WritesAt : ℕ → Lent → Lent → ℕ → ℕ → Order → Lent → ℕ → Lent → Type 0
@@ -45,7 +45,7 @@ WritesAt k words list at r o tiers n gave =
 
 -- no grants yet
 abbrev pub Cleared : List ℕ → Type 0
-Cleared gave = (length gave ≡ 65) × ((s : ℕ) → getD gave s 0 ≡ 0)
+Cleared gave = (length gave ≡ 66) × ((s : ℕ) → getD gave s 0 ≡ 0)
 
 -- a turn for so many units over some offers: what they give, the units taken, and the records added to a list
 pub record Turned (number id units : ℕ) (es : List Offer) (gave : List ℕ) (took : ℕ) (old : List ℕ) (at : ℕ) (new : List ℕ) (r : ℕ) : Type 0 where
@@ -65,15 +65,15 @@ IsContra longs words k d = (d ≡ contraPrice (stateOf longs words) (entryAt lon
 abbrev pub TurnedAt : Mode → List ℕ → List ℕ → ℕ → List ℕ → ℕ → List ℕ → ℕ → List ℕ → ℕ → Type 0
 TurnedAt m longs words k gave took old at new r =
     let o = entryAt longs words k in
-    Turned (stateOf longs words .clock .next - 1) (o .id) (o .units) (inside m (stateOf longs words) o) (take (openCount words + 1) gave) took old at new r
+    Turned (stateOf longs words .clock .next - 1) (o .id) (o .units) (inside m (stateOf longs words) o) (take (openCount words + 2) gave) took old at new r
 
 -- the same said of what is lent, for a contract
 abbrev pub Turns : Mode → Lent → Lent → ℕ → Lent → ℕ → Lent → ℕ → ℕ → Type 0
 Turns m longs words k gave took list at r =
-    (length (now (gave .exit)) ≡ 65) × TurnedAt m (now (longs .entry)) (now (words .entry)) k (now (gave .exit)) took (now (list .entry)) at (now (list .exit)) r
+    (length (now (gave .exit)) ≡ 66) × TurnedAt m (now (longs .entry)) (now (words .entry)) k (now (gave .exit)) took (now (list .entry)) at (now (list .exit)) r
 
 -- the grants and the units taken are those of its turn
 abbrev pub Gives : Mode → List ℕ → List ℕ → ℕ → List ℕ → ℕ → Type 0
 Gives m longs words k gave took =
     let t = turnOf m (stateOf longs words) (entryAt longs words k) in
-    (take (openCount words + 1) gave ≡ t .gave) × (took ≡ sum (t .gave))
+    (take (openCount words + 2) gave ≡ t .gave) × (took ≡ sum (t .gave))

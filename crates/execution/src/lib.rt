@@ -1,18 +1,19 @@
 // Document 01, "Execution": one order's turn in the lent state, its records written into the lent list as they come; and the turns of the orders under some ids.
 use offers::Rank;
+use offers::Slot;
 use state::Book;
 use state::Clock;
 use state::Stage;
 use types::Derived;
 ghost use mathlib.Core.Path.{_≡_};
 ghost use mathlib.Core.Bool.{true, _&&_};
-ghost use mathlib.Core.List.{List};
+ghost use mathlib.Core.List.{List, [], _∷_};
 ghost use Prim.Native.Nat.{ℕ, _+_, _-_, _%_, _<_, _≤_};
 ghost use lib.Dec.{eqb, ltb, leb};
 ghost use lib.ListN.{length, take};
 ghost use Rattle.rules.specs.Basics.{pick, sum};
 ghost use Rattle.rules.specs.Turn.{isShared, deal};
-ghost use Rattle.rules.specs.Execution.{legsPass, turnOf, stageAfter, executed, ready, executeIf, execute, serve};
+ghost use Rattle.rules.specs.Execution.{legsPass, turnOf, stageAfter, keptAfter, executed, ready, executeIf, execute, serve};
 ghost use Rattle.types.specs.View.{stageOf, derivedOf};
 ghost use Rattle.state.specs.Layout.{Sized, WordsSized};
 ghost use Rattle.state.specs.View.{entryAt, stateOf};
@@ -21,8 +22,10 @@ ghost use Rattle.records.specs.Records.{mostGiven, Writes};
 ghost use Rattle.execution.specs.Slots.{modeOf, offersIn};
 ghost use Rattle.execution.specs.Walk.{noTier, leastFrom, sizesOf, over, Under};
 ghost use Rattle.execution.specs.Turned.{slotRecords, Slotted, WritesAt, Cleared, Turned, orderAt, IsContra, Turns, Gives};
+ghost use Rattle.execution.specs.Kept.{AuctionBecomes};
 ghost use Rattle.execution.specs.Plays.{Plays};
 
+mod kept;
 mod offers;
 
 pub use offers::Mode;
@@ -42,16 +45,16 @@ fn put_slot(
     slot: usize,
     units: u32,
 ) -> usize
-    requires { ⌜ WordsSized (now words) × (slot < 65) × (legs ≤ mostGiven) ⌝ }
+    requires { ⌜ WordsSized (now words) × (slot < 66) × (legs ≤ mostGiven) ⌝ }
     ensures { λ r. ⌜ Writes list at r (slotRecords number order legs (now (words .entry)) rank slot units) ⌝ }
 {
     if units == 0 {
         return at;
     }
-    if slot == 0 {
+    if slot < Slot::BOOK {
         return records::put_record(list, at, number, order, rank, 0, legs, units);
     }
-    let k = slot - 1;
+    let k = slot - Slot::BOOK;
     let contra = records::contra_of(words[Book::IDS + k]);
     let price = number::wide(words[Book::PRICES + k]);
     records::put_record(list, at, number, order, rank, contra, price, units)
@@ -70,8 +73,8 @@ fn open_tier(b: u32, p: u32, u: u32) -> u32
 }
 
 // The nearest tier from b on that has units, if there is one.
-fn nearest(tiers: &[u32; 65], units: &[u32; 65], n: usize, b: u32) -> u32
-    requires { ⌜ (n ≤ 65) × (length (now tiers) ≡ 65) × (length (now units) ≡ 65) ⌝ }
+fn nearest(tiers: &[u32; 66], units: &[u32; 66], n: usize, b: u32) -> u32
+    requires { ⌜ (n ≤ 66) × (length (now tiers) ≡ 66) × (length (now units) ≡ 66) ⌝ }
     ensures { λ r. ⌜ (r ≡ leastFrom b noTier (take n (now (tiers .entry))) (take n (now (units .entry)))) × Under 4294967296 (take n (now (tiers .entry))) ⌝ }
 {
     let mut m = NONE;
@@ -91,8 +94,8 @@ fn at_tier(p: u32, k: u32, x: u32) -> u32
 }
 
 // "the rank's total": the units at tier k.
-fn total_at(tiers: &[u32; 65], units: &[u32; 65], n: usize, k: u32) -> u64
-    requires { ⌜ (n ≤ 65) × (length (now tiers) ≡ 65) × (length (now units) ≡ 65) ⌝ }
+fn total_at(tiers: &[u32; 66], units: &[u32; 66], n: usize, k: u32) -> u64
+    requires { ⌜ (n ≤ 66) × (length (now tiers) ≡ 66) × (length (now units) ≡ 66) ⌝ }
     ensures { λ r. ⌜ r ≡ sum (sizesOf k (take n (now (tiers .entry))) (take n (now (units .entry)))) ⌝ }
 {
     let mut sum: u64 = 0;
@@ -120,14 +123,14 @@ fn give(
     list: &mut [u64],
     at: usize,
     o: Order,
-    tiers: &[u32; 65],
+    tiers: &[u32; 66],
     n: usize,
     k: u32,
-    new: &[u32; 65],
-    gave: &mut [u32; 65],
+    new: &[u32; 66],
+    gave: &mut [u32; 66],
 ) -> usize
-    requires { ⌜ Slotted (now words) (now tiers) o n × (length (now new) ≡ 65) × (length (now gave) ≡ 65) ⌝ }
-    ensures { λ r. ⌜ (length (now (gave .exit)) ≡ 65) × (take n (now (gave .exit)) ≡ over k (take n (now (tiers .entry))) (take n (now (new .entry))) (take n (now (gave .entry))))
+    requires { ⌜ Slotted (now words) (now tiers) o n × (length (now new) ≡ 66) × (length (now gave) ≡ 66) ⌝ }
+    ensures { λ r. ⌜ (length (now (gave .exit)) ≡ 66) × (take n (now (gave .exit)) ≡ over k (take n (now (tiers .entry))) (take n (now (new .entry))) (take n (now (gave .entry))))
         × WritesAt k words list at r o tiers n gave ⌝ }
 {
     let rank = k % 8;
@@ -146,9 +149,9 @@ fn give(
 }
 
 // The units at tier k, 0 for those elsewhere.
-fn gather(tiers: &[u32; 65], units: &[u32; 65], n: usize, k: u32, sizes: &mut [u32; 65])
-    requires { ⌜ (n ≤ 65) × (length (now tiers) ≡ 65) × (length (now units) ≡ 65) × (length (now sizes) ≡ 65) ⌝ }
-    ensures { λ _. ⌜ (length (now (sizes .exit)) ≡ 65) × (take n (now (sizes .exit)) ≡ sizesOf k (take n (now (tiers .entry))) (take n (now (units .entry)))) ⌝ }
+fn gather(tiers: &[u32; 66], units: &[u32; 66], n: usize, k: u32, sizes: &mut [u32; 66])
+    requires { ⌜ (n ≤ 66) × (length (now tiers) ≡ 66) × (length (now units) ≡ 66) × (length (now sizes) ≡ 66) ⌝ }
+    ensures { λ _. ⌜ (length (now (sizes .exit)) ≡ 66) × (take n (now (sizes .exit)) ≡ sizesOf k (take n (now (tiers .entry))) (take n (now (units .entry)))) ⌝ }
 {
     let mut i = 0;
     while i < n {
@@ -169,9 +172,9 @@ fn is_shared(k: u32) -> bool
 }
 
 // "C and N are shared by size"; the others in turn.
-fn deal(sizes: &[u32; 65], n: usize, k: u32, amount: u32, shares: &mut [u32; 65])
-    requires { ⌜ (n ≤ 65) × (length (now sizes) ≡ 65) × (length (now shares) ≡ 65) ⌝ }
-    ensures { λ _. ⌜ (length (now (shares .exit)) ≡ 65) × (take n (now (shares .exit)) ≡ deal k amount (take n (now (sizes .entry)))) ⌝ }
+fn deal(sizes: &[u32; 66], n: usize, k: u32, amount: u32, shares: &mut [u32; 66])
+    requires { ⌜ (n ≤ 66) × (length (now sizes) ≡ 66) × (length (now shares) ≡ 66) ⌝ }
+    ensures { λ _. ⌜ (length (now (shares .exit)) ≡ 66) × (take n (now (shares .exit)) ≡ deal k amount (take n (now (sizes .entry)))) ⌝ }
 {
     if is_shared(k) {
         share::share(sizes, n, amount, shares);
@@ -186,20 +189,20 @@ fn give_part(
     list: &mut [u64],
     at: usize,
     o: Order,
-    tiers: &[u32; 65],
-    units: &[u32; 65],
+    tiers: &[u32; 66],
+    units: &[u32; 66],
     n: usize,
     k: u32,
     amount: u32,
-    gave: &mut [u32; 65],
+    gave: &mut [u32; 66],
 ) -> usize
-    requires { ⌜ Slotted (now words) (now tiers) o n × (length (now units) ≡ 65) × (length (now gave) ≡ 65) ⌝ }
-    ensures { λ r. ⌜ (length (now (gave .exit)) ≡ 65)
+    requires { ⌜ Slotted (now words) (now tiers) o n × (length (now units) ≡ 66) × (length (now gave) ≡ 66) ⌝ }
+    ensures { λ r. ⌜ (length (now (gave .exit)) ≡ 66)
         × (take n (now (gave .exit)) ≡ over k (take n (now (tiers .entry))) (deal k amount (sizesOf k (take n (now (tiers .entry))) (take n (now (units .entry))))) (take n (now (gave .entry))))
         × WritesAt k words list at r o tiers n gave ⌝ }
 {
-    let mut sizes = [0u32; 65];
-    let mut shares = [0u32; 65];
+    let mut sizes = [0u32; 66];
+    let mut shares = [0u32; 66];
     gather(tiers, units, n, k, &mut sizes);
     deal(&sizes, n, k, amount, &mut shares);
     give(words, list, at, o, tiers, n, k, &shares, gave)
@@ -219,13 +222,13 @@ fn turn(
     list: &mut [u64],
     at: usize,
     o: Order,
-    tiers: &[u32; 65],
-    units: &[u32; 65],
+    tiers: &[u32; 66],
+    units: &[u32; 66],
     n: usize,
-    gave: &mut [u32; 65],
+    gave: &mut [u32; 66],
 ) -> Taken
-    requires { ⌜ Slotted (now words) (now tiers) o n × (length (now units) ≡ 65) × Cleared (now gave) ⌝ }
-    ensures { λ r. ⌜ (length (now (gave .exit)) ≡ 65)
+    requires { ⌜ Slotted (now words) (now tiers) o n × (length (now units) ≡ 66) × Cleared (now gave) ⌝ }
+    ensures { λ r. ⌜ (length (now (gave .exit)) ≡ 66)
         × ((longs : List ℕ) → Turned (o .number) (o .id) (o .units) (offersIn longs (now (words .entry)) (o .legs) (now (tiers .entry)) (now (units .entry)) n)
         (take n (now (gave .exit))) (r .units) (now (list .entry)) at (now (list .exit)) (r .count)) ⌝ }
 {
@@ -283,19 +286,19 @@ fn open_turn(
     mode: u8,
     k: usize,
     d: Derived,
-    gave: &mut [u32; 65],
+    gave: &mut [u32; 66],
 ) -> Taken
     requires { ⌜ Sized (now longs) (now words) × (k < 64) × Cleared (now gave) × IsContra (now longs) (now words) k (derivedOf d) ⌝ }
     ensures { λ r. ⌜ Turns (modeOf mode) longs words k gave (r .units) list at (r .count) ⌝ }
 {
-    let mut tiers = [0u32; 65];
-    let mut units = [0u32; 65];
+    let mut tiers = [0u32; 66];
+    let mut units = [0u32; 66];
     let o = order_at(longs, words, k, d.price);
     let n = offers::interest(longs, words, mode, k, d, &mut tiers, &mut units);
     turn(words, list, at, o, &tiers, &units, n, gave)
 }
 
-// Its turn in the legs' pass, where only the legs are open to it.
+// Its turn in the legs' pass, where only the legs are open to it, all in rank L.
 fn legs_turn(
     longs: &[u64],
     words: &[u32],
@@ -303,7 +306,7 @@ fn legs_turn(
     at: usize,
     k: usize,
     d: Derived,
-    gave: &mut [u32; 65],
+    gave: &mut [u32; 66],
 ) -> Taken
     requires { ⌜ Sized (now longs) (now words) × (k < 64) × Cleared (now gave) × IsContra (now longs) (now words) k (derivedOf d) ⌝ }
     ensures { λ r. ⌜ Turns legsPass longs words k gave (r .units) list at (r .count) ⌝ }
@@ -312,8 +315,18 @@ fn legs_turn(
     let buy = state::is_set(words[Book::BUYS + k]);
     let shown = offers::legs_units(buy, words[Book::PRICES + k], d);
     let units = number::lesser(o.units, shown);
-    gave[0] = units;
-    let count = put_slot(words, list, at, o.number, o.id, o.legs, Rank::L, 0, units);
+    gave[Slot::LEAD] = units;
+    let count = put_slot(
+        words,
+        list,
+        at,
+        o.number,
+        o.id,
+        o.legs,
+        Rank::L,
+        Slot::LEAD,
+        units,
+    );
     Taken {
         count: count,
         units: units,
@@ -328,13 +341,12 @@ fn planned(
     at: usize,
     mode: u8,
     k: usize,
-    gave: &mut [u32; 65],
+    d: Derived,
+    gave: &mut [u32; 66],
 ) -> Taken
-    requires { ⌜ Sized (now longs) (now words) × (k < 64) × Cleared (now gave) ⌝ }
+    requires { ⌜ Sized (now longs) (now words) × (k < 64) × Cleared (now gave) × IsContra (now longs) (now words) k (derivedOf d) ⌝ }
     ensures { λ r. ⌜ Turns (modeOf mode) longs words k gave (r .units) list at (r .count) ⌝ }
 {
-    let buy = state::is_set(words[Book::BUYS + k]);
-    let d = quotes::derived(words, buy);
     if mode < Mode::LEGS_PASS {
         open_turn(longs, words, list, at, mode, k, d, gave)
     } else {
@@ -352,15 +364,35 @@ fn stage_after(mode: u8) -> u32
     Stage::LIVE
 }
 
-// The state after it: the book settled, and the legs lowered.
-fn applied(longs: &mut [u64], words: &mut [u32], mode: u8, k: usize, gave: &[u32; 65], took: u32)
-    requires { ⌜ Sized (now longs) (now words) × (k < 64) × (length (now gave) ≡ 65) × Gives (modeOf mode) (now longs) (now words) k (now gave) took ⌝ }
+// What the auction keeps after a turn that took some units from rank L: less from the queue; no other turn is during an auction.
+fn kept_after(longs: &[u64], words: &mut [u32], mode: u8, d: Derived, taken: u32)
+    requires { ⌜ Sized (now longs) (now words) ⌝ }
+    ensures { λ _. ⌜ AuctionBecomes longs words (λ a. keptAfter (modeOf mode) a (derivedOf d ∷ []) (taken ∷ [])) ⌝ }
+{
+    if mode == Mode::FROM_QUEUE {
+        kept::less_kept(longs, words, d, taken);
+    }
+}
+
+// The state after it: what was taken from rank L gone, the book settled, and the legs lowered.
+fn applied(
+    longs: &mut [u64],
+    words: &mut [u32],
+    mode: u8,
+    k: usize,
+    d: Derived,
+    gave: &[u32; 66],
+    took: u32,
+)
+    requires { ⌜ Sized (now longs) (now words) × (k < 64) × (length (now gave) ≡ 66) × IsContra (now longs) (now words) k (derivedOf d) × Gives (modeOf mode) (now longs) (now words) k (now gave) took ⌝ }
     ensures { λ _. ⌜ Becomes longs words (λ s. executed (modeOf mode) s (turnOf (modeOf mode) s (entryAt (now (longs .entry)) (now (words .entry)) k))) ⌝ }
 {
     let buy = state::is_set(words[Book::BUYS + k]);
     let id = words[Book::IDS + k];
+    let lead = gave[Slot::LEAD];
+    kept_after(longs, words, mode, d, lead);
     book::settle(longs, words, gave, id, took, stage_after(mode));
-    quotes::lower(words, buy, gave[0]);
+    quotes::lower(words, buy, lead + gave[Slot::LATE]);
 }
 
 // The turn of the order at place k, as its mode says: its records, and the state after it.
@@ -375,9 +407,11 @@ fn execute(
     requires { ⌜ Sized (now longs) (now words) × (k < 64) ⌝ }
     ensures { λ r. ⌜ Plays longs words list at r (λ s. executeIf true (modeOf mode) s (entryAt (now (longs .entry)) (now (words .entry)) k)) ⌝ }
 {
-    let mut gave = [0u32; 65];
-    let t = planned(longs, words, list, at, mode, k, &mut gave);
-    applied(longs, words, mode, k, &gave, t.units);
+    let mut gave = [0u32; 66];
+    let buy = state::is_set(words[Book::BUYS + k]);
+    let d = quotes::derived(words, buy);
+    let t = planned(longs, words, list, at, mode, k, d, &mut gave);
+    applied(longs, words, mode, k, d, &gave, t.units);
     t.count
 }
 

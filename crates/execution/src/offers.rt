@@ -1,6 +1,6 @@
 // Document 01, "Execution": the interest open to an order, read from the state and written in slots: a tier and units for each.
-// Slot 0 is the legs, slot k + 1 the entry at place k of the book.
-use state::Auction;
+// Slot 0 is the legs in rank L, slot 1 the legs in rank T, slot k + 2 the entry at place k of the book.
+use super::kept;
 use state::Book;
 use state::Stage;
 use types::Derived;
@@ -15,9 +15,8 @@ ghost use Rattle.rules.specs.Basics.{pick};
 ghost use Rattle.rules.specs.Prices.{mostBiased};
 ghost use Rattle.rules.specs.Book.{sameSide};
 ghost use Rattle.rules.specs.State.{contraPrice};
-ghost use Rattle.rules.specs.Auction.{areLate};
 ghost use Rattle.rules.specs.Turn.{keyOf, rankNumber};
-ghost use Rattle.rules.specs.Execution.{opens, rankOf, legsRank, inside};
+ghost use Rattle.rules.specs.Execution.{opens, rankOf, legsLead, inside};
 ghost use Rattle.types.specs.View.{stageOf, derivedOf};
 ghost use Rattle.state.specs.Layout as L;
 ghost use Rattle.state.specs.Layout.{Sized, WordsSized};
@@ -49,6 +48,17 @@ impl Rank {
     pub const T: u32 = 3;
 
     pub const R: u32 = 4;
+}
+
+// The slots of the legs in rank L and in rank T, and the first of the book's.
+pub struct Slot {}
+
+impl Slot {
+    pub const LEAD: usize = 0;
+
+    pub const LATE: usize = 1;
+
+    pub const BOOK: usize = 2;
 }
 
 // The greatest biased price.
@@ -100,42 +110,15 @@ fn within(buy: bool, price: u64, last: u32, units: u32) -> u32
 
 // ---- the legs
 
-// "Legs are late if their price is better, for the order, than the same derived price (bid or ask) when the auction began, or none existed then".
-fn are_late(longs: &[u64], words: &[u32], buy: bool, price: u64) -> bool
+// How many units of the legs' price are of rank L, "and the remaining units are T"; "Outside an auction: L".
+fn legs_lead(longs: &[u64], words: &[u32], mode: u8, buy: bool, d: Derived) -> u32
     requires { ⌜ Sized (now longs) (now words) ⌝ }
-    ensures { λ r. ⌜ r ≡ areLate (auctionOf (now (longs .entry)) (now (words .entry))) buy price ⌝ }
-{
-    if words[Auction::PENDING] == 0 {
-        return false;
-    }
-    if words[Auction::START_UNITS] == 0 {
-        return true;
-    }
-    let start = longs[Auction::START_PRICE];
-    if buy { price < start } else { start < price }
-}
-
-// "T, late legs"; "else all their units are L"; "Outside an auction: L".
-fn legs_rank(longs: &[u64], words: &[u32], mode: u8, buy: bool, price: u64) -> u32
-    requires { ⌜ Sized (now longs) (now words) ⌝ }
-    ensures { λ r. ⌜ (r ≡ rankNumber (legsRank (modeOf mode) (auctionOf (now (longs .entry)) (now (words .entry))) buy price)) × (r < 8) ⌝ }
+    ensures { λ r. ⌜ r ≡ legsLead (modeOf mode) (auctionOf (now (longs .entry)) (now (words .entry))) buy (derivedOf d) ⌝ }
 {
     if mode != Mode::FROM_QUEUE {
-        return Rank::L;
+        return d.units;
     }
-    if are_late(longs, words, buy, price) {
-        Rank::T
-    } else {
-        Rank::L
-    }
-}
-
-// The tier of the legs.
-fn legs_tier(longs: &[u64], words: &[u32], mode: u8, buy: bool, price: u64) -> u32
-    requires { ⌜ Sized (now longs) (now words) ⌝ }
-    ensures { λ r. ⌜ r ≡ keyOf buy price * 8 + rankNumber (legsRank (modeOf mode) (auctionOf (now (longs .entry)) (now (words .entry))) buy price) ⌝ }
-{
-    tier(buy, price, legs_rank(longs, words, mode, buy, price))
+    kept::leading(longs, words, buy, d)
 }
 
 // The units of the legs within a limit.
@@ -210,16 +193,16 @@ fn entry_units(words: &[u32], mode: u8, buy: bool, last: u32, i: usize) -> u32
     within(buy, price, last, units)
 }
 
-// The interest of the book that is open to the order at place k within its limit, the entry at place i in slot i + 1. How many entries there are.
+// The interest of the book that is open to the order at place k within its limit, the entry at place i in slot i + 2. How many entries there are.
 fn book_interest(
     words: &[u32],
     mode: u8,
     k: usize,
-    tiers: &mut [u32; 65],
-    units: &mut [u32; 65],
+    tiers: &mut [u32; 66],
+    units: &mut [u32; 66],
 ) -> usize
-    requires { ⌜ WordsSized (now words) × (k < 64) × (length (now tiers) ≡ 65) × (length (now units) ≡ 65) ⌝ }
-    ensures { λ r. ⌜ (r ≡ openCount (now (words .entry))) × (length (now (tiers .exit)) ≡ 65) × (length (now (units .exit)) ≡ 65)
+    requires { ⌜ WordsSized (now words) × (k < 64) × (length (now tiers) ≡ 66) × (length (now units) ≡ 66) ⌝ }
+    ensures { λ r. ⌜ (r ≡ openCount (now (words .entry))) × (length (now (tiers .exit)) ≡ 66) × (length (now (units .exit)) ≡ 66)
         × ((longs : List ℕ) → Stand (bookOffer (modeOf mode) longs (now (words .entry)) k) r (now (tiers .exit)) (now (units .exit))) ⌝ }
 {
     let m = state::open_count(words);
@@ -227,8 +210,8 @@ fn book_interest(
     let last = key(buy, number::wide(words[Book::PRICES + k]));
     let mut i = 0;
     while i < m {
-        tiers[i + 1] = entry_tier(words, mode, buy, i);
-        units[i + 1] = entry_units(words, mode, buy, last, i);
+        tiers[i + Slot::BOOK] = entry_tier(words, mode, buy, i);
+        units[i + Slot::BOOK] = entry_units(words, mode, buy, last, i);
         i += 1;
     }
     m
@@ -236,26 +219,29 @@ fn book_interest(
 
 // ---- both
 
-// The interest open to the order at place k within its limit, as its turn begins: the legs at their derived price, then the book by arrival. How many slots it has.
+// The interest open to the order at place k within its limit, as its turn begins: the legs at their derived price in both ranks, then the book by arrival. How many slots it has.
 pub fn interest(
     longs: &[u64],
     words: &[u32],
     mode: u8,
     k: usize,
     d: Derived,
-    tiers: &mut [u32; 65],
-    units: &mut [u32; 65],
+    tiers: &mut [u32; 66],
+    units: &mut [u32; 66],
 ) -> usize
-    requires { ⌜ Sized (now longs) (now words) × (k < 64) × (length (now tiers) ≡ 65) × (length (now units) ≡ 65)
+    requires { ⌜ Sized (now longs) (now words) × (k < 64) × (length (now tiers) ≡ 66) × (length (now units) ≡ 66)
         × (derivedOf d ≡ contraPrice (stateOf (now longs) (now words)) (entryAt (now longs) (now words) k .buy)) ⌝ }
-    ensures { λ r. ⌜ (r ≡ openCount (now (words .entry)) + 1) × (length (now (tiers .exit)) ≡ 65) × (length (now (units .exit)) ≡ 65) × Ranked r (now (tiers .exit))
+    ensures { λ r. ⌜ (r ≡ openCount (now (words .entry)) + 2) × (length (now (tiers .exit)) ≡ 66) × (length (now (units .exit)) ≡ 66) × Ranked r (now (tiers .exit))
         × (offersIn (now (longs .entry)) (now (words .entry)) (d .price) (now (tiers .exit)) (now (units .exit)) r
         ≡ inside (modeOf mode) (stateOf (now (longs .entry)) (now (words .entry))) (entryAt (now (longs .entry)) (now (words .entry)) k)) ⌝ }
 {
-    let buy = state::is_set(words[Book::BUYS + k]);
-    let limit = words[Book::PRICES + k];
     let m = book_interest(words, mode, k, tiers, units);
-    tiers[0] = legs_tier(longs, words, mode, buy, d.price);
-    units[0] = legs_units(buy, limit, d);
-    m + 1
+    let buy = state::is_set(words[Book::BUYS + k]);
+    let last = key(buy, number::wide(words[Book::PRICES + k]));
+    let lead = legs_lead(longs, words, mode, buy, d);
+    tiers[Slot::LEAD] = tier(buy, d.price, Rank::L);
+    units[Slot::LEAD] = within(buy, d.price, last, lead);
+    tiers[Slot::LATE] = tier(buy, d.price, Rank::T);
+    units[Slot::LATE] = within(buy, d.price, last, number::less(d.units, lead));
+    m + Slot::BOOK
 }

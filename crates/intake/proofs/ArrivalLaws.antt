@@ -1,22 +1,29 @@
--- How a message is taken in: the auction in the words of a state, and each kind case by case.
+-- How a message is taken in, each kind case by case; the auction in the slices of a state, and the legs read once more.
 use mathlib.Core.Path.{_≡_, refl, ap, sym, _∙_}
 use mathlib.Core.Bool.{Bool, true, false, _&&_, true≢false}
 use mathlib.Core.List.{List, [], _∷_}
-use Prim.Native.Nat.{ℕ, _-_}
+use Prim.Native.Nat.{ℕ, zero, suc, _-_, _≤_, min}
 use native.Mathlib.Omega.{arith}
-use lib.ListN.{getD, length-set}
+use borrow.Author.Tests.{ltb-false, ne-eqb}
+use lib.Dec.{ltb}
+use lib.ListN.{getD, set}
+use lib.Seq.{getD-set-same, getD-set-other}
 use Rattle.rules.specs.Basics.{pick}
 use Rattle.rules.specs.Outcome.{byTime, byOrder, byLegs}
+use Rattle.rules.specs.Prices.{Derived, exists}
 use Rattle.rules.specs.Book.{Entry, nobody, found, find, sameSide, held, queued, withStage, without}
-use Rattle.rules.specs.State.{Pending, Auction, none, pending, State, withBook, withAuction, isPending, reached}
-use Rattle.rules.specs.Auction.{eligible, auctionOf as beginning, endsByOrder, joins, endsByLegs}
+use Rattle.rules.specs.State.{Pending, Auction, none, pending, State, withBook, withAuction, isPending, reached, contraPrices}
+use Rattle.rules.specs.Auction.{eligible, auctionOf as beginning, existing, endsByOrder, joins, endsByLegs, unitsAt, seen, looked}
 use Rattle.rules.specs.Messages.{Local, Terms, Change, local, order, modify, clock}
 use Rattle.rules.specs.Step.{goesOn, begins, joining, ends, Intake, intake, entryOf, modifiedEntry, withNew, localIn, orderIntake, takeIn}
+use Rattle.types.specs.View.{upto, from}
+use Rattle.types.proofs.TableLaws.{from-cons, from-end}
 use Rattle.state.specs.Layout as L
 use Rattle.state.specs.Layout.{Sized}
-use Rattle.state.specs.View.{flag, auctionOf, stateOf}
+use Rattle.state.specs.View.{flag, startAt, startCount, pendingOf, auctionOf, stateOf}
 use Rattle.state.specs.Stores.{store, stores}
-use Rattle.state.proofs.StoreLaws.{stores-here, kept-all, kept-set}
+use Rattle.state.proofs.TableLaws.{from-same}
+use Rattle.state.proofs.StoreLaws.{Rising, rising-read, rising-kept, kept-all, kept-set}
 use Rattle.state.proofs.StateLaws.{auction-alone, pending-flag}
 use Rattle.intake.specs.Acts.{actOf, outside, during, Takes}
 
@@ -28,12 +35,7 @@ pub joins-is : (s : State) (p : Pending) (wish : Bool) (o : Entry) → (sameSide
 unfolding joins
 joins-is s p wish o = and-both (sameSide (p .buy) (o .buy)) wish (eligible s o)
 
--- ---- the auction in its words
-
--- what is known of an auction while it is pending
-abbrev pub pendingOf : List ℕ → List ℕ → Pending
-pendingOf longs words =
-    record { buy = flag (getD words L.buy 0); deadline = getD longs L.deadline 0; start = record { price = getD longs L.startPrice 0; units = getD words L.startUnits 0 } ∷ [] }
+-- ---- the auction in its slices
 
 -- where b says whether one is
 module _ (longs words : List ℕ) (b : Bool) (e : b ≡ isPending (auctionOf longs words)) where
@@ -58,27 +60,80 @@ pending-side longs words p e = go (flag (getD words L.pending 0)) e
     go true q = ap sideOf q
     go false q = absurd (true≢false (sym (ap isPending q)))
 
--- an auction stored
-pub begun : (longs words : List ℕ) (t p b u : ℕ) → Sized longs words
-    → stateOf (stores longs (store L.deadline t ∷ store L.startPrice p ∷ [])) (stores words (store L.pending 1 ∷ store L.buy b ∷ store L.startUnits u ∷ []))
-    ≡ withAuction (stateOf longs words) (pending (record { buy = flag b; deadline = t; start = record { price = p; units = u } ∷ [] }))
-begun longs words t p b u z =
-    let l₁ = stores longs (store L.deadline t ∷ []) in
-    let l₂ = stores l₁ (store L.startPrice p ∷ []) in
-    let w₁ = stores words (store L.pending 1 ∷ []) in
-    let w₂ = stores w₁ (store L.buy b ∷ []) in
-    let w₃ = stores w₂ (store L.startUnits u ∷ []) in
-    auction-alone longs l₂ words w₃
-    (kept-set L.deadline L.firstNumber longs l₁ L.startPrice p (omega arith) (omega arith) (kept-set L.deadline L.firstNumber longs longs L.deadline t (omega arith) (omega arith) (kept-all L.deadline L.firstNumber longs)))
-    (kept-set L.pending L.symbols words w₂ L.startUnits u (omega arith) (omega arith)
-    (kept-set L.pending L.symbols words w₁ L.buy b (omega arith) (omega arith) (kept-set L.pending L.symbols words words L.pending 1 (omega arith) (omega arith) (kept-all L.pending L.symbols words))))
-    ∙ ap (withAuction (stateOf longs words)) (rw (
-      stores-here longs (store L.deadline t) (store L.startPrice p ∷ []) (omega (arith, z .0)) (λ e. omega arith, tt),
-      stores-here l₁ (store L.startPrice p) [] (simp length-set (omega (arith, z .0))) tt,
-      stores-here words (store L.pending 1) (store L.buy b ∷ store L.startUnits u ∷ []) (omega (arith, z .1)) (λ e. omega arith, (λ e. omega arith, tt)),
-      stores-here w₁ (store L.buy b) (store L.startUnits u ∷ []) (simp length-set (omega (arith, z .1))) (λ e. omega arith, tt),
-      stores-here w₂ (store L.startUnits u) [] (simp length-set (omega (arith, z .1))) tt,
-    ))
+-- what is kept of the legs where n says whether they have a price: that price, or nothing
+pub start-is : (n : ℕ) (d : Derived) → flag n ≡ exists d → from (λ k. d) 0 (min n 1) ≡ existing (d ∷ [])
+start-is zero d e = from-end (λ k. d) 0 (min 0 1) (omega arith) ∙ rw (← e) refl
+start-is (suc n) d e =
+    let one : min (suc n) 1 ≡ 1 = omega arith in
+    rw (one, ← e, ne-eqb (suc n) 0 (λ (z : suc n ≡ 0). omega arith)) (from-cons (λ k. d) 0 1 (omega arith) ∙ ap (λ (ds : List Derived). d ∷ ds) (from-end (λ k. d) 1 1 (omega arith)))
+
+-- an auction stored, with n as the count of what is kept
+pub begun : (longs words : List ℕ) (t p n b u : ℕ) → Sized longs words
+    → stateOf (stores longs (store L.deadline t ∷ store L.startPrices p ∷ store L.startCount n ∷ [])) (stores words (store L.pending 1 ∷ store L.buy b ∷ store L.startUnits u ∷ []))
+    ≡ withAuction (stateOf longs words) (pending (record { buy = flag b; deadline = t; start = from (λ k. record { price = p; units = u }) 0 (min n 1) }))
+begun longs words t p n b u z =
+    let ls = store L.deadline t ∷ store L.startPrices p ∷ store L.startCount n ∷ [] in
+    let ws = store L.pending 1 ∷ store L.buy b ∷ store L.startUnits u ∷ [] in
+    let lr : Rising L.deadline L.firstNumber ls = (omega arith, omega arith, (omega arith, omega arith, (omega arith, omega arith, tt))) in
+    let wr : Rising L.pending L.symbols ws = (omega arith, omega arith, (omega arith, omega arith, (omega arith, omega arith, tt))) in
+    let lg = rising-read longs L.deadline L.firstNumber ls (omega (arith, z .0)) lr in
+    let wg = rising-read words L.pending L.symbols ws (omega (arith, z .1)) wr in
+    auction-alone longs (stores longs ls) words (stores words ws) (rising-kept longs L.deadline L.firstNumber ls lr) (rising-kept words L.pending L.symbols ws wr)
+    ∙ ap (withAuction (stateOf longs words)) (λ i.
+    pick (flag (wg .0 i))
+    (pending (record {
+      buy = flag (wg .1 .0 i);
+      deadline = lg .0 i;
+      start = (ap (λ (x : ℕ). from (startAt (stores longs ls) (stores words ws)) 0 (min x 1)) (lg .1 .1 .0)
+          ∙ from-same (startAt (stores longs ls) (stores words ws)) (λ k. record { price = p; units = u }) 0 (min n 1) (λ k a c.
+          let e : k ≡ 0 = omega arith in
+          rw e (λ j. record { price = lg .1 .0 j; units = wg .1 .1 .0 j }))) i;
+    }))
+    none)
+
+-- ---- one more look at the legs
+
+abbrev lookedAt : State → State
+lookedAt s = withAuction s (looked (s .auction) (contraPrices s))
+
+-- slices before and after a look, where the flag and the side stay and the units become the least that were shown
+module _ (longs words after : List ℕ) (now : Bool → List Derived) where
+  abbrev shows : List Derived
+  shows = now (flag (getD words L.buy 0))
+
+  abbrev IsLeast : Type 0
+  IsLeast = getD after L.startUnits 0 ≡ min (getD words L.startUnits 0) (unitsAt (getD longs L.startPrices 0) shows)
+
+  starts-seen : (n : ℕ) → n ≤ 1 → IsLeast → from (startAt longs after) 0 n ≡ seen (from (startAt longs words) 0 n) shows
+  unfolding upto
+  starts-seen zero h e = refl
+  starts-seen (suc zero) h e = λ i. record { price = getD longs L.startPrices 0; units = e i } ∷ []
+  starts-seen (suc (suc n)) h e = absurd (omega arith)
+
+  looked-is : getD after L.pending 0 ≡ getD words L.pending 0 → getD after L.buy 0 ≡ getD words L.buy 0 → (flag (getD words L.pending 0) ≡ true → IsLeast) → auctionOf longs after ≡ looked (auctionOf longs words) now
+  looked-is p b e = ap (λ (x : ℕ). pick (flag x) (pending (pendingOf longs after)) none) p ∙ go (flag (getD words L.pending 0)) e
+    where
+      go : (x : Bool) → (x ≡ true → IsLeast) → pick x (pending (pendingOf longs after)) none ≡ looked (pick x (pending (pendingOf longs words)) none) now
+      go true f = λ i. pending (record { buy = flag (b i); deadline = getD longs L.deadline 0; start = starts-seen (startCount longs) (omega arith) (f refl) i })
+      go false f = refl
+
+-- the least units stored
+pub least-kept : (longs words : List ℕ) (u : ℕ) → Sized longs words
+    → u ≡ min (getD words L.startUnits 0) (unitsAt (getD longs L.startPrices 0) (contraPrices (stateOf longs words) (flag (getD words L.buy 0)))) → stateOf longs (set words L.startUnits u) ≡ lookedAt (stateOf longs words)
+least-kept longs words u z e =
+    let after = set words L.startUnits u in
+    auction-alone longs longs words after (kept-all L.deadline L.firstNumber longs) (kept-set L.pending L.symbols words words L.startUnits u (omega arith) (omega arith) (kept-all L.pending L.symbols words))
+    ∙ ap (withAuction (stateOf longs words))
+    (looked-is longs words after (contraPrices (stateOf longs words)) (getD-set-other words L.startUnits L.pending u 0 (λ (x : L.pending ≡ L.startUnits). omega arith))
+    (getD-set-other words L.startUnits L.buy u 0 (λ (x : L.buy ≡ L.startUnits). omega arith)) (λ h. getD-set-same words L.startUnits u 0 (omega (arith, z .1)) ∙ e))
+
+-- no auction is pending, or its price has shown 0 units before: where b says whether one is
+pub nothing-seen : (longs words : List ℕ) (b : Bool) → b ≡ isPending (auctionOf longs words) → (b && ltb 0 (getD words L.startUnits 0)) ≡ false → stateOf longs words ≡ lookedAt (stateOf longs words)
+nothing-seen longs words b e h =
+    let s = stateOf longs words in
+    ap (withAuction s) (looked-is longs words words (contraPrices s) refl refl (λ p.
+    let none : getD words L.startUnits 0 ≤ 0 = ltb-false 0 (getD words L.startUnits 0) (rw (e ∙ sym (pending-flag longs words) ∙ p) at h) in
+    omega arith))
 
 -- ---- what is taken in
 

@@ -1,15 +1,16 @@
 // Document 01, "Order and auction life": a message taken in, in place: the state with it, and what it does to the auction.
 ghost use mathlib.Core.Path.{_≡_};
 ghost use mathlib.Core.Bool.{_&&_};
-ghost use Prim.Native.Nat.{_-_};
+ghost use mathlib.Core.List.{[], _∷_};
+ghost use Prim.Native.Nat.{_-_, min};
 ghost use lib.Dec.{leb};
 ghost use lib.ListN.{length};
 ghost use Rattle.rules.specs.Book.{Entry as Open, held, queued, answer, withStage};
-ghost use Rattle.rules.specs.State.{Pending, pending, withAuction};
-ghost use Rattle.rules.specs.Auction.{eligible, auctionOf as beginning, endsByOrder, joins, endsByLegs};
+ghost use Rattle.rules.specs.State.{Pending, pending, withAuction, contraPrices};
+ghost use Rattle.rules.specs.Auction.{eligible, auctionOf as beginning, endsByOrder, joins, endsByLegs, unitsAt, looked};
 ghost use Rattle.rules.specs.Messages.{local, national, order, response, modify, cancel, clock};
-ghost use Rattle.rules.specs.Step.{entryOf as newEntry, modifiedEntry, takeIn};
-ghost use Rattle.types.specs.View.{orderTerms, responseTerms, changeOf, localOf, nationalOf, bodyOf};
+ghost use Rattle.rules.specs.Step.{entryOf as newEntry, modifiedEntry, takeIn, watched};
+ghost use Rattle.types.specs.View.{orderTerms, responseTerms, changeOf, localOf, nationalOf, bodyOf, derivedOf};
 ghost use Rattle.state.specs.Layout.{Sized, LongsSized, WordsSized};
 ghost use Rattle.state.specs.View.{entryOf, clockOf, stateOf};
 ghost use Rattle.state.specs.Lent.{Tells, Becomes};
@@ -21,6 +22,7 @@ use state::Settings;
 use state::Stage;
 use types::Body;
 use types::Cancel;
+use types::Derived;
 use types::Leg;
 use types::Local;
 use types::Modify;
@@ -185,7 +187,7 @@ fn in_queue(e: Entry) -> Entry
 
 // ---- orders
 
-// The auction of an order of that side: "begins one, ending at its time plus the interval"; the derived contra price is kept.
+// The auction of an order of that side: "begins one, ending at its time plus the interval"; the derived contra price is kept where there is one.
 fn begin(longs: &mut [u64], words: &mut [u32], buy: bool)
     requires { ⌜ Sized (now longs) (now words) ⌝ }
     ensures { λ _. ⌜ ((o : Open) → o .buy ≡ buy → Becomes longs words (λ s. withAuction s (beginning s o (s .clock .time)))) ⌝ }
@@ -194,7 +196,8 @@ fn begin(longs: &mut [u64], words: &mut [u32], buy: bool)
     let time = number::lesser_long(longs[Clock::TIME], Clock::MOST_TIME);
     let interval = words[Settings::INTERVAL];
     longs[Auction::DEADLINE] = time + number::wide(interval);
-    longs[Auction::START_PRICE] = d.price;
+    longs[Auction::START_PRICES] = d.price;
+    longs[Auction::START_COUNT] = number::wide(state::word_of(0 < d.units));
     words[Auction::PENDING] = 1;
     words[Auction::BUY] = state::word_of(buy);
     words[Auction::START_UNITS] = d.units;
@@ -325,5 +328,45 @@ pub fn take_in(longs: &mut [u64], words: &mut [u32], b: Body) -> u8
         Body::Modify(t) => modify_in(longs, words, t),
         Body::Cancel(t) => cancel_in(longs, words, t),
         Body::Clock => clock_in(longs, words),
+    }
+}
+
+// ---- the legs, message after message
+
+// "the smallest number of units it has shown since the start", after one more look at the legs; "If the price moved away and came back, that number is 0".
+fn least_shown(kept: u32, price: u64, d: Derived) -> u32
+    ensures { λ r. ⌜ r ≡ min kept (unitsAt price (derivedOf d ∷ [])) ⌝ }
+{
+    if d.price != price {
+        return 0;
+    }
+    number::lesser(kept, d.units)
+}
+
+// One more look at the legs while an auction is pending; 0 units stay 0.
+fn look(longs: &mut [u64], words: &mut [u32])
+    requires { ⌜ Sized (now longs) (now words) ⌝ }
+    ensures { λ _. ⌜ Becomes longs words (λ s. withAuction s (looked (s .auction) (contraPrices s))) ⌝ }
+{
+    let kept = words[Auction::START_UNITS];
+    if state::is_pending(words) & (0 < kept) {
+        let d = quotes::derived(words, state::is_set(words[Auction::BUY]));
+        words[Auction::START_UNITS] = least_shown(kept, longs[Auction::START_PRICES], d);
+    }
+}
+
+// M-103: what is kept of the legs, after a message taken in; after any but a local quote they show what they showed.
+pub fn watch(longs: &mut [u64], words: &mut [u32], b: Body)
+    requires { ⌜ Sized (now longs) (now words) ⌝ }
+    ensures { λ _. ⌜ Becomes longs words (watched (bodyOf b)) ⌝ }
+{
+    match b {
+        Body::Local(q) => look(longs, words),
+        Body::National(q) => {}
+        Body::Order(o) => {}
+        Body::Response(t) => {}
+        Body::Modify(t) => {}
+        Body::Cancel(t) => {}
+        Body::Clock => {}
     }
 }

@@ -1,7 +1,7 @@
 -- What an accepted opening stores is the state that it begins with.
 use mathlib.Core.Path.{_≡_, refl, ap, _∙_}
 use mathlib.Core.Bool.{Bool, true, _&&_}
-use mathlib.Core.List.{List, [], _∷_}
+use mathlib.Core.List.{List, []}
 use Prim.Native.Nat.{ℕ, zero, suc, _+_, _-_, _*_, _≤_, _<_, min}
 use native.Mathlib.Nat.{min-eq-left}
 use native.Mathlib.Omega.{arith}
@@ -23,7 +23,7 @@ use Rattle.types.specs.declared.Opening.{Opening}
 use Rattle.types.proofs.TableLaws.{from-end, from-length, from-take}
 use Rattle.state.specs.Layout as L
 use Rattle.state.specs.Layout.{Sized}
-use Rattle.state.specs.View.{flag, entryAt, openCount, entriesOf, symbolOf, legAt, legCount, legsOf, quoteAt, marketOf, auctionOf, stateOf}
+use Rattle.state.specs.View.{flag, entryAt, openCount, entriesOf, symbolOf, legAt, legCount, legsOf, quoteAt, marketOf, pendingOf, auctionOf, stateOf}
 use Rattle.state.specs.Stores.{Kept, stores}
 use Rattle.state.proofs.TableLaws.{from-same}
 use Rattle.state.proofs.StoreLaws.{stores-other, stores-length, Rising, rising-read, rising-kept}
@@ -115,7 +115,7 @@ module _ (longs w m : List ℕ) (o : Opening) (z : Sized longs m) (y : Accepted 
   unset = rising-kept (stores m (countStores (o .count))) L.minimum L.pending (settingStores (o .settings)) settings-rise
 
   timed : All (λ s. getD clocks (s .at) 0 ≡ s .number) (clockStores (o .settings))
-  timed = rising-read longs L.next 70 (clockStores (o .settings)) (omega (arith, z .0)) (omega arith, omega arith, (omega arith, omega arith, (omega arith, omega arith, (omega arith, omega arith, tt))))
+  timed = rising-read longs L.next 71 (clockStores (o .settings)) (omega (arith, z .0)) (omega arith, omega arith, (omega arith, omega arith, (omega arith, omega arith, (omega arith, omega arith, tt))))
 
   -- between the two counts
   between-counts : (i : ℕ) → L.count < i → i < L.legCounts → getD words i 0 ≡ getD m i 0
@@ -165,7 +165,7 @@ module _ (longs w m : List ℕ) (o : Opening) (z : Sized longs m) (y : Accepted 
 
   no-auction : auctionOf clocks words ≡ none
   no-auction =
-      ap (λ (x : ℕ). pick (flag x) (pending (record { buy = flag (getD words L.buy 0); deadline = getD clocks L.deadline 0; start = record { price = getD clocks L.startPrice 0; units = getD words L.startUnits 0 } ∷ [] })) none)
+      ap (λ (x : ℕ). pick (flag x) (pending (pendingOf clocks words)) none)
       (unset .above L.pending (omega arith) ∙ counted .1 .1 .0)
 
   pub start-is : stateOf clocks words ≡ startOf (openingOf o)

@@ -12,7 +12,7 @@ use Rattle.rules.proofs.TestLaws.{lt-of, and-left, and-right}
 use Rattle.rules.proofs.RowLaws.{isNumbered}
 use Rattle.types.proofs.TableLaws.{from-length}
 use Rattle.state.specs.Layout as L
-use Rattle.state.specs.View.{flag, legAt, legCount, legsOf, auctionOf}
+use Rattle.state.specs.View.{flag, legAt, legCount, legsOf, pendingOf, auctionOf}
 
 pub legs-length : (words : List ℕ) → length (legsOf words) ≡ legCount words
 legs-length words = let z : legCount words - 0 ≡ legCount words = omega arith in from-length (legAt words) 0 (legCount words) ∙ z
@@ -20,7 +20,7 @@ legs-length words = let z : legCount words - 0 ≡ legCount words = omega arith 
 pub reached-words : (longs words : List ℕ) (time : ℕ) → reached (auctionOf longs words) time ≡ (flag (getD words L.pending 0) && leb (getD longs L.deadline 0) time)
 reached-words longs words time = go (flag (getD words L.pending 0))
   where
-    go : (b : Bool) → reached (pick b (pending (record { buy = flag (getD words L.buy 0); deadline = getD longs L.deadline 0; start = record { price = getD longs L.startPrice 0; units = getD words L.startUnits 0 } ∷ [] })) none) time ≡ (b && leb (getD longs L.deadline 0) time)
+    go : (b : Bool) → reached (pick b (pending (pendingOf longs words)) none) time ≡ (b && leb (getD longs L.deadline 0) time)
     go true = refl
     go false = refl
 

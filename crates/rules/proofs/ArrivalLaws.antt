@@ -12,7 +12,7 @@ use Rattle.rules.specs.Messages.{Terms, Change, Body, local, national, o
 use Rattle.rules.specs.Refusals.{refusal, orderRow, responseRow}
 use Rattle.rules.specs.State.{Clock, Auction, none, pending, State, taken}
 use Rattle.rules.specs.Auction.{eligible, endsByOrder, joins}
-use Rattle.rules.specs.Step.{Intake, entryOf, modifiedEntry, modified, orderIntake, takeIn, follow, Answer, answered, acted, accepted, step}
+use Rattle.rules.specs.Step.{Intake, entryOf, modifiedEntry, modified, orderIntake, takeIn, follow, Answer, answered, watched, acted, accepted, step}
 use Rattle.rules.specs.Strategy.{Strategy}
 use Rattle.rules.specs.Turn.{Fill}
 use Rattle.rules.specs.Execution.{Reply}
@@ -27,7 +27,7 @@ use Rattle.rules.proofs.EntryLaws.{all-only, nobody-not, find-id}
 use Rattle.rules.proofs.StandingLaws.{Numbered}
 use Rattle.rules.proofs.ServeLaws.{Made, made-stands, made-fixed, Kept}
 use Rattle.rules.proofs.ClaimLaws.{told, told-fixed}
-use Rattle.rules.proofs.IntakeLaws.{not-open, without-none, added-cases, newOrder, Admitted, admitted, take-inv, take-clock}
+use Rattle.rules.proofs.IntakeLaws.{not-open, without-none, added-cases, newOrder, Admitted, admitted, take-inv, take-clock, watched-inv}
 use Rattle.rules.proofs.RunLaws.{back, follow-kept, step-fine, opened, opened-inv}
 
 -- ---- a message gives a number
@@ -113,16 +113,17 @@ acted-stands : (s : State) (b : Body) (a : Arrivals) → Admitted s b → Number
 unfolding acted
 acted-stands s b a m n =
     let i : Intake = takeIn s b in
-    let r : Reply = follow (i .state) (i .act) in
-    let k : Kept (i .state) r = follow-kept (i .state) (i .act) (take-inv s b m) in
+    let w : State = watched b (i .state) in
+    let r : Reply = follow w (i .act) in
+    let k : Kept w r = follow-kept w (i .act) (watched-inv b (i .state) (take-inv s b m)) in
     let q : Numbered (given s b a) (i .state .book) = take-numbered s b a m n in
     subst (λ (c : Clock). Stands (c .next - 1) (given s b a) (answered b (i .act) r)) (take-clock s b)
     (record {
       numbered = k .came (given s b a) q;
-      told = told (Standing (given s b a)) (i .state) r (λ t w. made-stands (given s b a) (i .state) t q w) k;
-      fixed = λ rs. told-fixed (GoodTurn (i .state .clock .next - 1)) (Standing (given s b a)) (r .turns) rs
-          (all-map (Made (i .state)) (λ t. (qs : List Fill) → GoodTurn (i .state .clock .next - 1) t qs → Standing (given s b a) t qs → qs ≡ t .records)
-          (λ t w qs. made-fixed (given s b a) (i .state) t qs q w) (r .turns) (k .made));
+      told = told (Standing (given s b a)) w r (λ t v. made-stands (given s b a) w t q v) k;
+      fixed = λ rs. told-fixed (GoodTurn (w .clock .next - 1)) (Standing (given s b a)) (r .turns) rs
+          (all-map (Made w) (λ t. (qs : List Fill) → GoodTurn (w .clock .next - 1) t qs → Standing (given s b a) t qs → qs ≡ t .records)
+          (λ t v qs. made-fixed (given s b a) w t qs q v) (r .turns) (k .made));
     })
 
 given-is : (s : State) (m : Sent) (a : Arrivals) → refusal s (m .message) (m .room) ≡ 0 → given (taken s (m .message .time)) (m .message .body) a ≡ arrivalsAfter s m a

@@ -16,14 +16,14 @@ use Rattle.rules.specs.Messages.{Terms, Change, Body, local, national, o
 use Rattle.rules.specs.Refusals.{isOrder, ofParticipant, orderRow, modifyRow, cancelRow}
 use Rattle.rules.specs.State.{Pending, Auction, none, pending, State, isPending, reached}
 use Rattle.rules.specs.Auction.{eligible, queue, firstIn, initiator, endsByOrder, joins, endsByLegs}
-use Rattle.rules.specs.Step.{Act, goesOn, begins, joining, ends, Intake, localIn, entryOf, modifiedEntry, modified, orderIntake, takeIn}
+use Rattle.rules.specs.Step.{Act, goesOn, begins, joining, ends, Intake, localIn, entryOf, modifiedEntry, modified, orderIntake, takeIn, watched}
 use Rattle.rules.specs.Reached.{Ordered, FitStage, Inv, Beginner, orderId, IsAhead, Leads}
 use Rattle.rules.proofs.TestLaws.{lt-of, not-le, eq-of, and-left, and-right, both-true, or-cases, or-right, not-true, pick-both, pick-if}
 use Rattle.rules.proofs.BasicsLaws.{all-map, all-both, all-append}
 use Rattle.rules.proofs.RowLaws.{NoneOf, none-of}
 use Rattle.rules.proofs.EntryLaws.{not-queued, isOrderStage, held-order, live-order, queued-order, all-only, only-holds, any-no, nobody-not, found-same, find-all, find-only, all-under}
 use Rattle.rules.proofs.SilentLaws.{self-side, one-side}
-use Rattle.rules.proofs.IntakeLaws.{Admitted, Earlier, not-open, added-cases, joins-side, newOrder}
+use Rattle.rules.proofs.IntakeLaws.{Admitted, Earlier, not-open, added-cases, joins-side, newOrder, watched-pending}
 
 -- ---- two limits of one side
 
@@ -254,6 +254,13 @@ module _ (K : List Entry → Type 0) (N : ℕ → List Entry → Type 0) (s : St
       let some : any (λ e. isOrder e && ofParticipant i p e) (s .book) ≡ true = not-true _ (n .0) in
       λ z. k .left i (s .book) (cancel-other i p (s .book) (a .inv .order) some (n .1 .0)) (h z)
   take-holds clock a h = pick-both (λ (x : Act). Holds K (N 0) x s) (reached (s .auction) (s .clock .time)) tt h
+
+-- the legs are read: neither the book nor whether an auction is pending changes
+pub watched-holds : (K N : List Entry → Type 0) (b : Body) (a : Act) (s : State) → Holds K N a s → Holds K N a (watched b s)
+watched-holds K N b goesOn s h = λ z. h (sym (watched-pending b s) ∙ z)
+watched-holds K N b begins s h = (watched-pending b s ∙ h .0, h .1)
+watched-holds K N b joining s h = (watched-pending b s ∙ h .0, h .1)
+watched-holds K N b (ends c) s h = tt
 
 -- ---- a pending auction has a queue
 

@@ -25,6 +25,7 @@ pub mod InitiatorLaws
 pub mod CrossLaws
 pub mod PassLaws
 pub mod RunLaws
+pub mod KeptLaws
 pub mod ArrivalLaws
 pub mod AverageLaws
 pub mod ReachedLaws

@@ -11,13 +11,13 @@ use Rattle.rules.specs.Messages.{Body, Message}
 use Rattle.rules.specs.Refusals.{refusal}
 use Rattle.rules.specs.State.{Clock, Auction, none, pending, State, taken}
 use Rattle.rules.specs.Execution.{Reply, still}
-use Rattle.rules.specs.Step.{Act, goesOn, begins, joining, ends, Intake, takeIn, quiet, follow, Answer, answered, acted, accepted, step}
+use Rattle.rules.specs.Step.{Act, goesOn, begins, joining, ends, Intake, takeIn, quiet, follow, Answer, answered, watched, acted, accepted, step}
 use Rattle.rules.specs.Run.{Opened, refusedOpening, started, startOf, opening, Sent, answerTo, answers}
 use Rattle.rules.specs.Demand.{GoodTurn, Told, Good, Demand3OfRules}
 use Rattle.rules.specs.Reached.{Inv}
 use Rattle.rules.proofs.ServeLaws.{made-good, Kept, steps-kept, ending-kept}
 use Rattle.rules.proofs.ClaimLaws.{told}
-use Rattle.rules.proofs.IntakeLaws.{Admitted, admitted, take-inv, take-clock, start-inv}
+use Rattle.rules.proofs.IntakeLaws.{Admitted, admitted, take-inv, take-clock, start-inv, watched-inv}
 
 pub back : (x : ℕ) → x + 1 - 1 ≡ x
 back x = omega arith
@@ -47,8 +47,9 @@ pub acted-fine : (s : State) (b : Body) → Admitted s b → Fine (s .clock .nex
 unfolding acted
 acted-fine s b a =
     let i : Intake = takeIn s b in
-    subst (λ (c : Clock). Fine (c .next - 1) (answered b (i .act) (follow (i .state) (i .act)))) (take-clock s b)
-    (answered-fine (i .state) b (i .act) (follow (i .state) (i .act)) (follow-kept (i .state) (i .act) (take-inv s b a)))
+    let r : State = watched b (i .state) in
+    subst (λ (c : Clock). Fine (c .next - 1) (answered b (i .act) (follow r (i .act)))) (take-clock s b)
+    (answered-fine r b (i .act) (follow r (i .act)) (follow-kept r (i .act) (watched-inv b (i .state) (take-inv s b a))))
 
 accepted-fine : (s : State) (m : Message) (room : ℕ) → Inv s → refusal s m room ≡ 0 → Fine (s .clock .next) (accepted s m)
 unfolding accepted

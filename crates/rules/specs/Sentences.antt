@@ -4,14 +4,15 @@ use mathlib.Core.Bool.{true, false}
 use mathlib.Core.List.{List, [], _∷_, _++_, map}
 use Prim.Native.Nat.{ℕ, zero, suc, _+_, _/_, _%_}
 use lib.IntN.{ℤ, pos, negsuc}
-use lib.ListN.{set, replicate}
+use lib.ListN.{set, replicate, take}
 use Rattle.rules.specs.Series.{Symbol}
 use Rattle.rules.specs.Strategy.{Leg, Strategy, openingRefusal}
 use Rattle.rules.specs.Book.{count, isResponse}
 use Rattle.rules.specs.Messages.{Terms, Body, local, national, order, response, modify, cancel, clock, Message}
 use Rattle.rules.specs.Refusals.{isOrder}
-use Rattle.rules.specs.Turn.{Rank, L, C, N, T, R, Contra, legs, entry, Fill}
+use Rattle.rules.specs.Turn.{Rank, L, C, N, T, R, Contra, legs, entry, sizes, Fill}
 use Rattle.rules.specs.Outcome.{byTime, byOrder, byLegs, Outcome, Noted, Placed, Begun, Joined, Ended, Refused}
+use Rattle.rules.specs.Execution.{Turn}
 use Rattle.rules.specs.Step.{Answer}
 use Rattle.rules.specs.Run.{startOf, Sent, answerTo, answers, after}
 use Rattle.rules.specs.Tape.{tapeRefusal, Tape, reads, tapeOf}
@@ -21,7 +22,7 @@ use Rattle.rules.specs.Cases.{symbolOf, pair, spread, sent, quote, nbbo,
 
 -- ---- rows
 
--- what a row asks: the answer to a message after others, the outcomes of messages after others, the numbers of openings and of tapes, what a tape means and what it prints, the averages of a message after others and that of one order
+-- what a row asks: the answer to a message after others, the outcomes of messages after others, the numbers of openings and of tapes, what a tape means and what it prints, the averages of a message after others and that of one order, and what the legs offer the first order that a message executes
 pub data Asked : Type 0 where
   answerAfter : Strategy → List Sent → Sent → Asked
   outcomesAfter : Strategy → List Sent → List Sent → Asked
@@ -31,8 +32,9 @@ pub data Asked : Type 0 where
   printOf : List ℕ → Asked
   averagesAfter : Strategy → List Sent → Sent → Asked
   averageAfter : Strategy → List Sent → Sent → ℕ → Asked
+  legsOffered : Strategy → List Sent → Sent → Asked
 
--- and what is expected: an outcome, its records, and how many orders and responses are open after it; outcomes; numbers, 0 for a pass; a tape read; lines; averages; one of them
+-- and what is expected: an outcome, its records, and how many orders and responses are open after it; outcomes; numbers, 0 for a pass, or units of rank L and of rank T; a tape read; lines; averages; one of them
 pub data Expected : Type 0 where
   told : Outcome → List Fill → ℕ → ℕ → Expected
   outcomes : List Outcome → Expected
@@ -46,6 +48,11 @@ pub data Expected : Type 0 where
 abbrev pub toldOf : Answer → Expected
 toldOf a = told (a .outcome) (a .fills) (count isOrder (a .state .book)) (count (λ e. isResponse (e .stage)) (a .state .book))
 
+-- the units of the two offers of the legs, in the first of some turns
+abbrev pub firstOffered : List Turn → List ℕ
+firstOffered [] = []
+firstOffered (t ∷ ts) = take 2 (sizes (t .offers))
+
 -- what the rules say
 abbrev pub said : Asked → Expected
 said (answerAfter o ms m) = toldOf (answerTo (after (startOf o) ms) m)
@@ -56,6 +63,7 @@ said (readingOf t) = reading (tapeOf t)
 said (printOf t) = lines (linesOf t)
 said (averagesAfter o ms m) = averaged (averages (answerTo (after (startOf o) ms) m .fills))
 said (averageAfter o ms m i) = averageIs (averageFor i (answerTo (after (startOf o) ms) m .fills))
+said (legsOffered o ms m) = numbers (firstOffered (answerTo (after (startOf o) ms) m .turns))
 
 -- a row of the table: its number, by which it is cited, and its two columns
 pub record Row : Type 0 where
@@ -161,6 +169,10 @@ began units price = market ++ (wishes B 7 units price ∷ [])
 -- the same where no leg is quoted; its contra price is that of live order 1, which sells so many units at 130
 abbrev pub beganAgainst : ℕ → ℕ → ℤ → List Sent
 beganAgainst sold units price = sells 1 1 sold (pos 130) ∷ wishes B 7 units price ∷ []
+
+-- the derived ask of 130 shows 15 units
+abbrev pub fifteen : List Sent
+fifteen = quote 0 220 10 240 15 ∷ quote 1 110 15 125 10 ∷ []
 
 -- national quotes with a contra price of 130 for buyers and 95 for sellers
 abbrev pub nationals : List Sent
@@ -388,9 +400,9 @@ executionRows =
     (told (Ended byTime 2) (took 6 7 T legs 97 10 ∷ took 6 7 N (entry 20) 96 5 ∷ []) 1 0)
     -- "or none existed then"
     ∷ row 43 (answerAfter spread (beganAgainst 5 30 (pos 130) ++ market) atDeadline) (told (Ended byTime 2) (took 5 7 C (entry 1) 130 5 ∷ took 5 7 T legs 130 10 ∷ []) 1 0)
-    -- "else all their units are L": the same price, more units
-    ∷ row 44 (answerAfter spread (began 30 (pos 130) ++ (asks 1 20 5 (pos 130) 0 ∷ quote 0 220 10 240 15 ∷ quote 1 110 15 125 10 ∷ [])) atDeadline)
-    (told (Ended byTime 2) (took 7 7 L legs 130 15 ∷ took 7 7 C (entry 20) 130 5 ∷ []) 1 0)
+    -- "else all their units are L": the same price (more units in row 77)
+    ∷ row 44 (answerAfter spread (began 30 (pos 130) ++ (asks 1 20 5 (pos 130) 0 ∷ quote 0 220 10 240 10 ∷ [])) atDeadline)
+    (told (Ended byTime 2) (took 6 7 L legs 130 10 ∷ took 6 7 C (entry 20) 130 5 ∷ []) 1 0)
     -- "else": a worse price
     ∷ row 45 (answerAfter spread (began 30 (pos 132) ++ (asks 1 20 5 (pos 132) 0 ∷ quote 0 220 10 242 10 ∷ [])) atDeadline)
     (told (Ended byTime 2) (took 6 7 L legs 132 10 ∷ took 6 7 C (entry 20) 132 5 ∷ []) 1 0)
@@ -518,9 +530,42 @@ averageRows =
     (averaged (averageOf 7 (pos 128) 1 ∷ averageOf 5 (pos 130) 0 ∷ []))
     ∷ []
 
+-- M-103, "Leg size that came during the auction"
+abbrev pub legSizeRows : List Row
+legSizeRows =
+    -- "only the smallest number of units it has shown since the start is rank L, and the remaining units are T": 10 at the start, then 15
+    row 76 (answerAfter spread (began 30 (pos 130) ++ fifteen) atDeadline) (told (Ended byTime 2) (took 6 7 L legs 130 10 ∷ took 6 7 T legs 130 5 ∷ []) 1 0)
+    -- rank T at that price is behind C and N
+    ∷ row 77 (answerAfter spread (began 30 (pos 130) ++ (asks 1 20 5 (pos 130) 0 ∷ asks 2 21 6 (pos 130) 0 ∷ fifteen)) atDeadline)
+    (told (Ended byTime 4) (took 8 7 L legs 130 10 ∷ took 8 7 C (entry 20) 130 5 ∷ took 8 7 N (entry 21) 130 6 ∷ took 8 7 T legs 130 5 ∷ []) 1 0)
+    -- "the smallest number of units it has shown": 10, 4, and 10 again
+    ∷ row 78 (answerAfter spread (began 30 (pos 130) ++ (asks 1 20 5 (pos 130) 0 ∷ quote 0 220 10 240 4 ∷ quote 0 220 10 240 10 ∷ [])) atDeadline)
+    (told (Ended byTime 3) (took 7 7 L legs 130 4 ∷ took 7 7 C (entry 20) 130 5 ∷ took 7 7 T legs 130 6 ∷ []) 1 0)
+    -- "If the price moved away and came back, that number is 0": 130, 131, and 130 again
+    ∷ row 79 (answerAfter spread (began 30 (pos 130) ++ (asks 1 20 5 (pos 130) 0 ∷ quote 0 220 10 241 10 ∷ quote 0 220 10 240 10 ∷ [])) atDeadline)
+    (told (Ended byTime 2) (took 7 7 C (entry 20) 130 5 ∷ took 7 7 T legs 130 10 ∷ []) 1 0)
+    -- none for a while, one contract of 2, is away too
+    ∷ row 80 (answerAfter (pair 6 B 1 S 2 5)
+    (quote 0 220 10 240 10 ∷ quote 1 50 8 60 9 ∷ wishes B 7 30 (pos 140) ∷ asks 1 20 5 (pos 140) 0 ∷ quote 1 50 1 60 9 ∷ quote 1 50 8 60 9 ∷ []) atDeadline)
+    (told (Ended byTime 2) (took 7 7 C (entry 20) 140 5 ∷ took 7 7 T legs 140 4 ∷ []) 1 0)
+    -- "since the start": the quote that ends the auction adds 5 units, all late
+    ∷ row 81 (legsOffered spread (began 30 (pos 122) ++ (quote 0 239 10 240 15 ∷ [])) (quote 1 110 15 111 10)) (numbers (10 ∷ 5 ∷ []))
+    -- or leaves 4, none of them late
+    ∷ row 82 (legsOffered spread (began 30 (pos 122) ++ (quote 0 239 10 240 15 ∷ [])) (quote 1 110 4 111 10)) (numbers (4 ∷ 0 ∷ []))
+    -- "What one queue order takes from rank L is gone for the next": 10 of 15, of which order 7 takes 4
+    ∷ row 83 (answerAfter spread (began 4 (pos 130) ++ (wishes B 9 20 (pos 130) ∷ asks 1 20 5 (pos 130) 0 ∷ fifteen)) atDeadline)
+    (told (Ended byTime 4) (took 8 7 L legs 130 4 ∷ took 8 9 L legs 130 6 ∷ took 8 9 C (entry 20) 130 5 ∷ took 8 9 T legs 130 5 ∷ []) 1 0)
+    -- "Better and worse prices rank as before": a worse one with more units
+    ∷ row 84 (answerAfter spread (began 30 (pos 132) ++ (asks 1 20 5 (pos 132) 0 ∷ quote 0 220 10 242 15 ∷ quote 1 110 15 125 10 ∷ [])) atDeadline)
+    (told (Ended byTime 2) (took 7 7 L legs 132 15 ∷ took 7 7 C (entry 20) 132 5 ∷ []) 1 0)
+    -- "the derived price": a seller's is the bid
+    ∷ row 85 (answerAfter spread (market ++ (wishes S 7 30 (pos 95) ∷ bids 1 20 5 (pos 95) ∷ quote 0 220 15 240 10 ∷ quote 1 110 10 125 15 ∷ [])) atDeadline)
+    (told (Ended byTime 3) (took 7 7 L legs 95 10 ∷ took 7 7 C (entry 20) 95 5 ∷ took 7 7 T legs 95 5 ∷ []) 1 0)
+    ∷ []
+
 -- the table
 abbrev pub sentences : List Row
-sentences = seriesRows ++ priceRows ++ lifeRows ++ auctionRows ++ executionRows ++ turnedBackRows ++ tapeRows ++ arrivalRows ++ averageRows
+sentences = seriesRows ++ priceRows ++ lifeRows ++ auctionRows ++ executionRows ++ turnedBackRows ++ tapeRows ++ arrivalRows ++ averageRows ++ legSizeRows
 
 -- the rules answer as it says
 unfoldable pub SentencesHold : Type 0

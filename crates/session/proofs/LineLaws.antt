@@ -11,7 +11,7 @@ use Rattle.rules.specs.Messages.{Body, local, national, order, response, modify
 use Rattle.rules.specs.State.{State, taken}
 use Rattle.rules.specs.Refusals.{leastRoom, refusal}
 use Rattle.rules.specs.Turn.{Fill}
-use Rattle.rules.specs.Step.{Act, goesOn, begins, joining, ends, takeIn, follow, recordsOf, outcomeOf, acted, accepted, turnedBack, step}
+use Rattle.rules.specs.Step.{Act, goesOn, begins, joining, ends, takeIn, follow, recordsOf, outcomeOf, watched, acted, accepted, turnedBack, step}
 use Rattle.rules.specs.Average.{averages}
 use Rattle.rules.specs.Print.{recordLines, refusedLines}
 use Rattle.types.specs.View as View
@@ -47,7 +47,7 @@ accepted-none : (k : ℕ) (s : State) (m : Message) → refusedLines k (accepted
 unfolding accepted acted
 accepted-none k s m =
     let i = takeIn (taken s (m .time)) (m .body) in
-    let q = follow (i .state) (i .act) in
+    let q = follow (watched (m .body) (i .state)) (i .act) in
     none-refused k (m .body) (i .act) (q .state) (length (recordsOf (q .turns)))
 
 few-lines : (k : ℕ) (s : State) (m : Message) (room : ℕ) → let a = step s m room in length (linesText (recordLines (a .fills))) ≤ mostText → length (linesText (refusedLines k (a .outcome))) ≤ mostLine

@@ -4,9 +4,9 @@ use mathlib.Core.Bool.{Bool, true, false}
 use mathlib.Core.List.{List, [], _∷_, _++_, append-nil}
 use Prim.Native.Nat.{ℕ, _<_}
 use native.Mathlib.Omega.{arith}
-use borrow.Author.Tests.{eq-eqb, ne-eqb, eqb-true}
+use borrow.Author.Tests.{ne-eqb, eqb-true}
 use lib.Dec.{eqb}
-use lib.ListN.{length, drop}
+use lib.ListN.{drop}
 use Rattle.rules.specs.Basics.{pick}
 use Rattle.rules.specs.Strategy.{Strategy, openingRefusal}
 use Rattle.rules.specs.Run.{Opened, refusedOpening, started, startOf, opening}
@@ -14,6 +14,7 @@ use Rattle.rules.specs.Tape.{headerOf, messagesFrom, tapeRefusal, strategyOf, m
 use Rattle.rules.specs.Print.{Line, titleLine, refusedLine, linesFrom, openedLines, linesOf}
 use Rattle.state.specs.Layout.{Sized, isSized}
 use Rattle.state.specs.View.{stateOf}
+use Rattle.state.proofs.StateLaws.{sized-is}
 use Rattle.opening.specs.Opens.{Opens}
 use Rattle.text.specs.Text.{lineText, linesText}
 use Rattle.session.specs.declared.Start.{Start}
@@ -44,8 +45,8 @@ module _ (l w tape : List ℕ) (r : Start) (c : r .count ≡ headerOf tape .mess
   }
 
   pub opened : (o : Strategy) (l′ w′ : List ℕ) → Sized l w → tapeRefusal tape ≡ 0 → opening o ≡ opening (strategyOf tape) → Opens l w o (r .number) l′ w′ → Begins l w tape l′ w′ r
-  opened o l′ w′ (x, y) z e p =
-      let s : isSized l w ≡ true = rw (eq-eqb (length l) 70 x, eq-eqb (length w) 580 y) refl in
+  opened o l′ w′ x z e p =
+      let s : isSized l w ≡ true = sized-is l w x in
       record {
         number = rw z (p .number ∙ rw s (sym (number-is o) ∙ ap numberOf e ∙ number-is (strategyOf tape)));
         count = c;

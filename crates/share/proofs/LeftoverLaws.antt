@@ -227,9 +227,9 @@ first-set zero a l = refl
 first-set (suc n) a [] = refl
 first-set (suc n) a (x ∷ l) = refl
 
-pub first-is : (n a : ℕ) (ss out : List ℕ) → n ≤ 65 → sum (take n ss) ≡ 0 → take (min n 65) out ≡ inTurn a (take (min n 65) ss) → take n (set out 0 a) ≡ shares a (take n ss)
+pub first-is : (n a : ℕ) (ss out : List ℕ) → n ≤ 66 → sum (take n ss) ≡ 0 → take (min n 66) out ≡ inTurn a (take (min n 66) ss) → take n (set out 0 a) ≡ shares a (take n ss)
 first-is n a ss out h z e =
-    let m : min n 65 ≡ n = omega arith in
+    let m : min n 66 ≡ n = omega arith in
     first-set n a out ∙ ap (λ (l : List ℕ). set l 0 a) (rw m at e) ∙ shares-first a (take n ss) z
 
 pub none-is : (n a : ℕ) (ss out : List ℕ) → n ≤ 0 → take n out ≡ shares a (take n ss)

@@ -1,7 +1,7 @@
 -- A change in one region of the slices changes that part of the state alone.
 use mathlib.Core.Path.{_≡_, refl}
 use mathlib.Core.Bool.{Bool, true, false}
-use mathlib.Core.List.{List, [], _∷_}
+use mathlib.Core.List.{List}
 use Prim.Native.Nat.{ℕ, _+_, _*_, _≤_, _<_}
 use native.Mathlib.Omega.{arith}
 use borrow.Author.Tests.{eq-eqb}
@@ -12,7 +12,7 @@ use Rattle.rules.specs.State.{none, pending, stateFrom, withBook, withMarket, w
 use Rattle.rules.proofs.TestLaws.{eq-of, and-left, and-right}
 use Rattle.state.specs.Layout as L
 use Rattle.state.specs.Layout.{Sized, isSized}
-use Rattle.state.specs.View.{flag, entryAt, openCount, entriesOf, legAt, legCount, legsOf, quoteAt, marketOf, settingsOf, strategyOf, auctionOf, clockOf, stateOf}
+use Rattle.state.specs.View.{flag, entryAt, openCount, entriesOf, legAt, legCount, legsOf, quoteAt, marketOf, startAt, startCount, pendingOf, settingsOf, strategyOf, auctionOf, clockOf, stateOf}
 use Rattle.state.specs.Stores.{Kept}
 use Rattle.state.proofs.TableLaws.{from-same}
 
@@ -60,7 +60,7 @@ module _ (a b l m : List ℕ) where
         t (L.arrivals + k) (omega arith) (omega arith),
       )))
 
-  settings-same : Same L.firstNumber 70 a b → Same L.minimum L.pending l m → settingsOf b m ≡ settingsOf a l
+  settings-same : Same L.firstNumber 71 a b → Same L.minimum L.pending l m → settingsOf b m ≡ settingsOf a l
   settings-same t s =
       rw (
         s L.minimum (omega arith) (omega arith),
@@ -74,15 +74,16 @@ module _ (a b l m : List ℕ) where
         t L.openingTime (omega arith) (omega arith),
       )
 
+  starts-same : Same L.deadline L.firstNumber a b → Same L.pending L.symbols l m → pendingOf b m .start ≡ pendingOf a l .start
+  starts-same t s =
+      rw (t L.startCount (omega arith) (omega arith))
+      (from-same (startAt b m) (startAt a l) 0 (startCount a) (λ k p q. rw (s (L.startUnits + k) (omega arith) (omega arith), t (L.startPrices + k) (omega arith) (omega arith))))
+
   auction-same : Same L.deadline L.firstNumber a b → Same L.pending L.symbols l m → auctionOf b m ≡ auctionOf a l
   auction-same t s =
-      rw (
-        s L.pending (omega arith) (omega arith),
-        s L.buy (omega arith) (omega arith),
-        s L.startUnits (omega arith) (omega arith),
-        t L.deadline (omega arith) (omega arith),
-        t L.startPrice (omega arith) (omega arith),
-      )
+      λ i. pick (flag (s L.pending (omega arith) (omega arith) i))
+      (pending (record { buy = flag (s L.buy (omega arith) (omega arith) i); deadline = t L.deadline (omega arith) (omega arith) i; start = starts-same t s i }))
+      none
 
 clock-same : (a b : List ℕ) → Same L.next L.deadline a b → clockOf b ≡ clockOf a
 clock-same a b t = rw (t L.next (omega arith) (omega arith), t L.time (omega arith) (omega arith))
@@ -140,7 +141,7 @@ clock-alone a b l t =
 pub pending-flag : (longs words : List ℕ) → flag (getD words L.pending 0) ≡ isPending (auctionOf longs words)
 pending-flag longs words = go (flag (getD words L.pending 0))
   where
-    go : (b : Bool) → b ≡ isPending (pick b (pending (record { buy = flag (getD words L.buy 0); deadline = getD longs L.deadline 0; start = record { price = getD longs L.startPrice 0; units = getD words L.startUnits 0 } ∷ [] })) none)
+    go : (b : Bool) → b ≡ isPending (pick b (pending (pendingOf longs words)) none)
     go true = refl
     go false = refl
 
@@ -148,9 +149,9 @@ pending-flag longs words = go (flag (getD words L.pending 0))
 
 pub sized-so : (longs words : List ℕ) → isSized longs words ≡ true → Sized longs words
 sized-so longs words h = (
-  eq-of (length longs) 70 (and-left (eqb (length longs) 70) (eqb (length words) 580) h),
-  eq-of (length words) 580 (and-right (eqb (length longs) 70) (eqb (length words) 580) h),
+  eq-of (length longs) 71 (and-left (eqb (length longs) 71) (eqb (length words) 580) h),
+  eq-of (length words) 580 (and-right (eqb (length longs) 71) (eqb (length words) 580) h),
 )
 
 pub sized-is : (longs words : List ℕ) → Sized longs words → isSized longs words ≡ true
-sized-is longs words h = rw (eq-eqb (length longs) 70 (h .0), eq-eqb (length words) 580 (h .1)) refl
+sized-is longs words h = rw (eq-eqb (length longs) 71 (h .0), eq-eqb (length words) 580 (h .1)) refl

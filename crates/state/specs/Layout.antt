@@ -8,7 +8,7 @@ use lib.ListN.{length}
 
 -- the longs of a state
 abbrev pub LongsSized : List ℕ → Type 0
-LongsSized longs = length longs ≡ 70
+LongsSized longs = length longs ≡ 71
 
 -- the words of a state
 abbrev pub WordsSized : List ℕ → Type 0
@@ -20,7 +20,7 @@ Sized longs words = LongsSized longs × WordsSized words
 
 -- the same as a test
 abbrev pub isSized : List ℕ → List ℕ → Bool
-isSized longs words = eqb (length longs) 70 && eqb (length words) 580
+isSized longs words = eqb (length longs) 71 && eqb (length words) 580
 
 -- ---- book
 
@@ -104,10 +104,10 @@ abbrev pub amounts : ℕ
 amounts = 490
 
 abbrev pub firstNumber : ℕ
-firstNumber = 68
+firstNumber = 69
 
 abbrev pub openingTime : ℕ
-openingTime = 69
+openingTime = 70
 
 -- ---- auction
 
@@ -123,8 +123,11 @@ startUnits = 495
 abbrev pub deadline : ℕ
 deadline = 66
 
-abbrev pub startPrice : ℕ
-startPrice = 67
+abbrev pub startPrices : ℕ
+startPrices = 67
+
+abbrev pub startCount : ℕ
+startCount = 68
 
 -- ---- clock
 

@@ -1,6 +1,6 @@
 -- What the two slices of a state stand for in the rules. Every value of every word has a meaning: a count is cut at its places, a flag is set where it is not 0, a ratio or a time above its greatest counts as that.
 use mathlib.Core.Bool.{Bool, not}
-use mathlib.Core.List.{List, [], _∷_}
+use mathlib.Core.List.{List}
 use Prim.Native.Nat.{ℕ, _+_, _*_, min}
 use lib.Dec.{eqb}
 use lib.ListN.{getD}
@@ -82,6 +82,24 @@ quoteAt words k =
 abbrev pub marketOf : List ℕ → List P.Quote
 marketOf words = from (quoteAt words) 0 (legCount words)
 
+-- ---- auction
+
+-- the price at a place of what is kept of the legs
+abbrev pub startAt : List ℕ → List ℕ → ℕ → P.Derived
+startAt longs words k = record { price = getD longs (L.startPrices + k) 0; units = getD words (L.startUnits + k) 0 }
+
+-- how many prices are kept
+abbrev pub startCount : List ℕ → ℕ
+startCount longs = min (getD longs L.startCount 0) 1
+
+-- what is known of an auction while it is pending
+abbrev pub pendingOf : List ℕ → List ℕ → T.Pending
+pendingOf longs words = record { buy = flag (getD words L.buy 0); deadline = getD longs L.deadline 0; start = from (startAt longs words) 0 (startCount longs) }
+
+-- the auction
+abbrev pub auctionOf : List ℕ → List ℕ → T.Auction
+auctionOf longs words = pick (flag (getD words L.pending 0)) (T.pending (pendingOf longs words)) T.none
+
 -- ---- the rest
 
 -- the settings
@@ -102,13 +120,6 @@ settingsOf longs words =
 -- the strategy
 abbrev pub strategyOf : List ℕ → List ℕ → S.Strategy
 strategyOf longs words = record { legs = legsOf words; settings = settingsOf longs words }
-
--- the auction
-abbrev pub auctionOf : List ℕ → List ℕ → T.Auction
-auctionOf longs words =
-    pick (flag (getD words L.pending 0))
-    (T.pending (record { buy = flag (getD words L.buy 0); deadline = getD longs L.deadline 0; start = record { price = getD longs L.startPrice 0; units = getD words L.startUnits 0 } ∷ [] }))
-    T.none
 
 -- the clock
 abbrev pub clockOf : List ℕ → T.Clock

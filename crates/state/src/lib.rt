@@ -10,7 +10,7 @@ ghost use Rattle.state.specs.Lent.{Tells};
 pub struct State {}
 
 impl State {
-    pub const LONGS: usize = 70;
+    pub const LONGS: usize = 71;
 
     pub const WORDS: usize = 580;
 }
@@ -101,9 +101,9 @@ impl Settings {
     pub const AMOUNTS: usize = 490;
 
     // In the longs.
-    pub const FIRST_NUMBER: usize = 68;
+    pub const FIRST_NUMBER: usize = 69;
 
-    pub const OPENING_TIME: usize = 69;
+    pub const OPENING_TIME: usize = 70;
 }
 
 // The auction; its other words count while PENDING is not 0.
@@ -114,12 +114,17 @@ impl Auction {
 
     pub const BUY: usize = 494;
 
+    // The units of what is kept of the legs.
     pub const START_UNITS: usize = 495;
 
     // In the longs.
     pub const DEADLINE: usize = 66;
 
-    pub const START_PRICE: usize = 67;
+    // The price of what is kept of the legs.
+    pub const START_PRICES: usize = 67;
+
+    // How many prices are kept, 0 or 1; a greater number counts as 1.
+    pub const START_COUNT: usize = 68;
 }
 
 // The next arrival number and the last accepted time, in the longs.

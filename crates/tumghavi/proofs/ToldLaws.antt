@@ -53,7 +53,7 @@ answered-counted b (ends c) s = refl
 
 accepted-counted : (s : State) (m : Message) → Counted (R.accepted s m)
 unfolding R.accepted R.acted
-accepted-counted s m = let i = R.takeIn (taken s (m .time)) (m .body) in answered-counted (m .body) (i .act) (i .state)
+accepted-counted s m = let i = R.takeIn (taken s (m .time)) (m .body) in answered-counted (m .body) (i .act) (R.watched (m .body) (i .state))
 
 step-counted : (s : State) (m : Message) (room : ℕ) → Counted (R.step s m room)
 unfolding R.step

@@ -149,7 +149,7 @@ pub extern "C" fn tumghavi_average_in(list: &[u64], fills: usize, order: u32) ->
 
 // A copy opened: 0, and the arrays hold its state, whatever they held; or the number that refuses it, and they are as they were.
 #[no_mangle]
-pub extern "C" fn tumghavi_open_in(longs: &mut [u64; 70], words: &mut [u32; 580], o: Opening) -> u32
+pub extern "C" fn tumghavi_open_in(longs: &mut [u64; 71], words: &mut [u32; 580], o: Opening) -> u32
     ensures { λ r. ⌜ IsOpened longs words (openingOf o) r ⌝ }
 {
     opening::open(longs, words, o)
@@ -169,7 +169,7 @@ fn tell(longs: &mut [u64], words: &mut [u32], list: &mut [u64], f: Fields) -> Ou
 // A message: its outcome, and its fill records at the start of the list.
 #[no_mangle]
 pub extern "C" fn tumghavi_step_in(
-    longs: &mut [u64; 70],
+    longs: &mut [u64; 71],
     words: &mut [u32; 580],
     list: &mut [u64],
     m: Fields,
@@ -192,7 +192,7 @@ fn record_of(p: &[u8]) -> Fields
 // The same from the bytes of a message record.
 #[no_mangle]
 pub extern "C" fn tumghavi_record_in(
-    longs: &mut [u64; 70],
+    longs: &mut [u64; 71],
     words: &mut [u32; 580],
     list: &mut [u64],
     bytes: &[u8],

@@ -4,7 +4,7 @@ use super::random::Random;
 use crate::book::{Entry, Standing};
 use crate::engine::{Engine, Outcome};
 use crate::execution::{Fill, FillList};
-use crate::market::LocalSide;
+use crate::market::{LocalSide, Quote};
 use crate::strategy::{ratios_fit, third_friday, Cents, Leg, Settings, Side};
 use crate::tape::{write_tape, Header, Record, Tape};
 use std::ops::RangeInclusive;
@@ -193,6 +193,21 @@ impl Script {
             time: self.soon(),
             ..Record::default()
         }
+    }
+
+    /// A local quote as given.
+    pub fn local_as(&mut self, leg: usize, quote: Quote<LocalSide>) {
+        let record = Record {
+            kind: 1,
+            wish_or_leg: leg as u8,
+            units: quote.bid.size,
+            price: quote.bid.price,
+            ask: quote.ask.price,
+            ask_size: quote.ask.size,
+            time: self.soon(),
+            ..Record::default()
+        };
+        self.send(record);
     }
 
     /// A local quote of both sides around the leg's middle.

@@ -11,16 +11,20 @@ take-requires c κs = search needs
 take-in-requires : tie.Need-take-in-requires
 take-in-requires c κs = search needs
 
+watch-requires : tie.Need-watch-requires
+watch-requires c κs = search needs
+
 follow-requires : tie.Need-follow-requires
 follow-requires c κs = search needs
 
 outcome-of-requires : tie.Need-outcome-of-requires
 outcome-of-requires c κs =
     let F = c .before .before .before .before .before .before .before .before in
-    let I = F .before .before .before .before .before .before .before .before in
+    let W = F .before .before .before .before .before .before .before .before in
+    let I = W .before .before .before .before .before .before .before in
     let T = I .before .before .before .before .before in
     let a = T .before .before .before .before .before .args in
-    (search needs, accepted-count (a .longs .now) (T .take .last .0) (a .words .now) _ _ _ _ _ _ _ _ (messageOf (a .m)) (T .take .ensures (a .words .now)) (I .take-in .ensures) (F .follow .ensures) (search needs) .1)
+    (search needs, accepted-count (a .longs .now) (T .take .last .0) (a .words .now) _ _ _ _ _ _ _ _ _ (messageOf (a .m)) (T .take .ensures (a .words .now)) (I .take-in .ensures) (W .watch .ensures) (F .follow .ensures) (search needs) .1)
 
 same-length : tie.Need-same-length
 same-length c = search needs
@@ -34,10 +38,11 @@ same-length-3 c = search needs
 returns : tie.Need-returns
 returns c =
     let F = c .before .before .before .before .before .before .before .before .before in
-    let I = F .before .before .before .before .before .before .before .before in
+    let W = F .before .before .before .before .before .before .before .before in
+    let I = W .before .before .before .before .before .before .before in
     let T = I .before .before .before .before .before in
     let a = T .before .before .before .before .before .args in
-    accepted-is (a .longs .now) (T .take .last .0) (a .words .now) _ _ _ _ _ _ _ _ (messageOf (a .m)) (T .take .ensures (a .words .now)) (I .take-in .ensures) (F .follow .ensures) _ (search needs) refl (c .outcome-of .ensures)
+    accepted-is (a .longs .now) (T .take .last .0) (a .words .now) _ _ _ _ _ _ _ _ _ (messageOf (a .m)) (T .take .ensures (a .words .now)) (I .take-in .ensures) (W .watch .ensures) (F .follow .ensures) _ (search needs) refl (c .outcome-of .ensures)
 
 pub accepted-spec : {M : Type 1} → statement M
 accepted-spec =
@@ -45,6 +50,7 @@ accepted-spec =
     (tie.spec
     take-requires
     take-in-requires
+    watch-requires
     follow-requires
     outcome-of-requires
     same-length

@@ -1,6 +1,7 @@
 use borrow.Author.Needs.{needs}
+use Rattle.types.specs.View.{derivedOf}
 use Rattle.execution.specs.Slots.{modeOf}
-use Rattle.execution.proofs.ExecuteLaws.{applied-is}
+use Rattle.execution.proofs.ExecuteLaws.{legs-most, applied-is}
 use Rattle.execution.proofs.applied.Statement.{statement}
 use Rattle.execution.proofs.applied.Tie as tie
 
@@ -25,6 +26,12 @@ mul-id c = search needs
 slice-read-id : tie.Need-slice-read-id
 slice-read-id c = search needs
 
+element-copy-out-lead : tie.Need-element-copy-out-lead
+element-copy-out-lead c = search needs
+
+kept-after-requires : tie.Need-kept-after-requires
+kept-after-requires c κs = search needs
+
 stage-after-requires : tie.Need-stage-after-requires
 stage-after-requires c κs = search needs
 
@@ -33,6 +40,13 @@ settle-requires c κs = search needs
 
 element-copy-out-lower : tie.Need-element-copy-out-lower
 element-copy-out-lower c = search needs
+
+add-lower : tie.Need-add-lower
+add-lower c =
+    let S = c .before .before .before .before .before .before .before .before .before .before .before .before .before .before .before .before .before .before .before .before .before in
+    let a = S .args in
+    let h = legs-most (modeOf (a .mode)) (a .longs .now) (a .words .now) (a .k) (derivedOf (a .d)) (a .gave .now) (a .took) (S .pre .3) (S .pre .2) (S .pre .4) in
+    search needs
 
 lower-requires : tie.Need-lower-requires
 lower-requires c κs = search needs
@@ -48,11 +62,13 @@ returns c =
     let W = c .before .before in
     let T = W .before .before .before .before .before .before .before in
     let A = T .before in
-    let B = A .before .before .before .before in
+    let K = A .before .before .before .before .before in
+    let B = K .before .before .before .before .before in
     let S = B .before .before .before .before in
     let a = S .args in
-    applied-is (modeOf (a .mode)) (a .longs .now) (a .words .now) (a .k) (a .gave .now) (a .took) (S .pre .3) (B .is-set .result) (A .stage-after .result) (T .settle .last .0) (T .settle .last .1 .0) (W .lower .last .0)
-    (B .is-set .ensures) (A .stage-after .ensures) (T .settle .ensures) (W .lower .ensures (T .settle .last .0))
+    let b = T .settle .last .0 in
+    applied-is (modeOf (a .mode)) (a .longs .now) (a .words .now) (a .k) (derivedOf (a .d)) (a .gave .now) (a .took) (S .pre .3) (S .pre .2) (S .pre .4) (B .is-set .result) (A .stage-after .result) (K .kept-after .last .1 .0) b (T .settle .last .1 .0) (W .lower .last .0)
+    (B .is-set .ensures) (A .stage-after .ensures) (K .kept-after .ensures) (T .settle .ensures) (W .lower .ensures b)
 
 pub applied-spec : {M : Type 1} → statement M
 applied-spec =
@@ -65,9 +81,12 @@ applied-spec =
     add-id
     mul-id
     slice-read-id
+    element-copy-out-lead
+    kept-after-requires
     stage-after-requires
     settle-requires
     element-copy-out-lower
+    add-lower
     lower-requires
     same-length
     same-length-2

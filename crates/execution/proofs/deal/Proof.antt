@@ -20,7 +20,7 @@ returns : tie.Need-returns
 returns c =
     let T = c .before .before in
     let S = T .before .before in
-    let m : min (S .args .n) 65 ≡ S .args .n = omega (arith, S .pre .0) in
+    let m : min (S .args .n) 66 ≡ S .args .n = omega (arith, S .pre .0) in
     let y = deal-yes (S .args .k) (S .args .amount) (take (S .args .n) (S .args .sizes .now)) (sym (T .before .is-shared .ensures) ∙ T .if1 .taken) in
     (c .share .ensures .0, rw m at (c .share .ensures .1) ∙ y)
 
@@ -28,7 +28,7 @@ returns-2 : tie.Need-returns-2
 returns-2 c =
     let T = c .before .before in
     let S = T .before .before in
-    let m : min (S .args .n) 65 ≡ S .args .n = omega (arith, S .pre .0) in
+    let m : min (S .args .n) 66 ≡ S .args .n = omega (arith, S .pre .0) in
     let y = deal-no (S .args .k) (S .args .amount) (take (S .args .n) (S .args .sizes .now)) (sym (T .before .is-shared .ensures) ∙ T .if1 .left) in
     (c .in-turn .ensures .0, rw m at (c .in-turn .ensures .1) ∙ y)
 

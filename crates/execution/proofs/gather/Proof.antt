@@ -11,7 +11,7 @@ use Rattle.execution.proofs.gather.Statement.{statement}
 use Rattle.execution.proofs.gather.Tie as tie
 
 abbrev Inv-loop : tie.InvT-loop
-Inv-loop tiers units n k sizes₀ i₀ sizes i = (i ≤ n) × (length sizes ≡ 65) × (take i sizes ++ sizesOf k (drop i (take n tiers)) (drop i (take n units)) ≡ sizesOf k (take n tiers) (take n units))
+Inv-loop tiers units n k sizes₀ i₀ sizes i = (i ≤ n) × (length sizes ≡ 66) × (take i sizes ++ sizesOf k (drop i (take n tiers)) (drop i (take n units)) ≡ sizesOf k (take n tiers) (take n units))
 
 abbrev μ-loop : tie.MeasureT-loop
 μ-loop tiers units n k sizes₀ i₀ sizes i = n - i

@@ -16,7 +16,7 @@ use Rattle.execution.proofs.give.Statement.{statement}
 use Rattle.execution.proofs.give.Tie as tie
 
 abbrev Inv-loop : tie.InvT-loop
-Inv-loop words list₀ at o tiers n k new gave₀ rank w₀ i₀ list gave w i = (i ≤ n) × (length gave ≡ 65)
+Inv-loop words list₀ at o tiers n k new gave₀ rank w₀ i₀ list gave w i = (i ≤ n) × (length gave ≡ 66)
     × (take i gave ++ over k (drop i (take n tiers)) (drop i (take n new)) (drop i (take n gave)) ≡ over k (take n tiers) (take n new) (take n gave₀))
     × ((longs units : List ℕ) → Adds list₀ at list w (fillsAt (o .number) (o .id) k (offersIn longs words (o .legs) tiers units i) (take i gave)))
 

@@ -1,10 +1,10 @@
 use mathlib.Core.Path.{_≡_, refl}
-use mathlib.Core.Bool.{true, false}
+use mathlib.Core.Bool.{true}
 use Prim.Native.Nat.{_+_, _-_}
 use native.Mathlib.Omega.{arith}
-use borrow.Author.Tests.{lt-ltb, ne-eqb}
+use borrow.Author.Tests.{lt-ltb, le-ltb}
 use borrow.Author.Needs.{needs}
-use lib.Dec.{eqb, ltb}
+use lib.Dec.{ltb}
 use lib.ListN.{getD}
 use Rattle.rules.specs.Turn.{legs, entry}
 use Rattle.state.specs.Layout as L
@@ -30,10 +30,7 @@ returns-2 c =
     let a = S .args in
     let b : ltb 0 (a .units) ≡ true = lt-ltb 0 (a .units) (omega (arith, T .before .if1 .left)) in
     let e = record-is (a .number) (a .order) (a .rank) 0 (a .legs) (a .units) (a .legs) legs (omega arith) (omega arith) refl (omega (arith, S .pre .2)) in
-    rw (b, T .if2 .taken) (rw e at (P .put-record .ensures))
-
-sub-k : tie.Need-sub-k
-sub-k c = search needs
+    rw (b, lt-ltb (a .slot) 2 (T .if2 .taken)) (rw e at (P .put-record .ensures))
 
 add-contra-of : tie.Need-add-contra-of
 add-contra-of c = search needs
@@ -73,13 +70,12 @@ returns-3 c =
     let E = K .before .before in
     let S = E .before .before .before .before in
     let a = S .args in
-    let i = a .slot - 1 in
+    let i = a .slot - 2 in
     let w = a .words .now in
     let b : ltb 0 (a .units) ≡ true = lt-ltb 0 (a .units) (omega (arith, E .before .if1 .left)) in
-    let n : eqb (a .slot) 0 ≡ false = ne-eqb _ _ (E .if2 .left) in
     let e = record-is (a .number) (a .order) (a .rank) (K .contra-of .result) (W .wide .result) (a .units) (getD w (L.prices + i) 0) (entry (getD w (L.ids + i) 0)) (omega arith) (omega arith) (K .contra-of .ensures)
     (omega (arith, W .wide .ensures .0, W .wide .ensures .1)) in
-    rw (b, n) (rw e at (P .put-record2 .ensures))
+    rw (b, le-ltb (a .slot) 2 (E .if2 .left)) (rw e at (P .put-record2 .ensures))
 
 pub put-slot-spec : {M : Type 1} → statement M
 put-slot-spec =
@@ -89,7 +85,6 @@ put-slot-spec =
     put-record-requires
     same-length
     returns-2
-    sub-k
     add-contra-of
     mul-contra-of
     shared-slice-read-contra-of

@@ -15,7 +15,7 @@ use Rattle.execution.proofs.turn.Statement.{statement}
 use Rattle.execution.proofs.turn.Tie as tie
 
 abbrev Inv-loop : tie.InvT-loop
-Inv-loop words list₀ at o tiers units n gave₀ w₀ rest₀ b₀ list gave w rest b = (length gave ≡ 65) × (length list ≡ length list₀) × (b ≤ noTier) × (rest ≤ o .units)
+Inv-loop words list₀ at o tiers units n gave₀ w₀ rest₀ b₀ list gave w rest b = (length gave ≡ 66) × (length list ≡ length list₀) × (b ≤ noTier) × (rest ≤ o .units)
     × ((longs : List ℕ) → Walked (o .number) (o .id) (o .units) b rest (offersIn longs words (o .legs) tiers units n) (take n gave) list₀ at list w)
 
 abbrev μ-loop : tie.MeasureT-loop

@@ -4,9 +4,9 @@ use Rattle.rules.specs.Book.{held}
 use Rattle.rules.specs.Messages.{order}
 use Rattle.rules.specs.Step.{entryOf as newEntry, takeIn}
 use Rattle.types.specs.View.{orderTerms}
-use Rattle.state.specs.View.{stateOf}
+use Rattle.state.specs.View.{pendingOf, stateOf}
 use Rattle.intake.specs.Acts.{outside, during}
-use Rattle.intake.proofs.ArrivalLaws.{pendingOf, pending-in, none-in, takes-as, order-pending, order-none}
+use Rattle.intake.proofs.ArrivalLaws.{pending-in, none-in, takes-as, order-pending, order-none}
 use borrow.Author.Needs.{needs}
 use Rattle.intake.proofs.order_in.Statement.{statement}
 use Rattle.intake.proofs.order_in.Tie as tie

@@ -12,7 +12,7 @@ use Rattle.share.proofs.by_size.Statement.{statement}
 use Rattle.share.proofs.by_size.Tie as tie
 
 abbrev Inv-loop : tie.InvT-loop
-Inv-loop sizes n amount all out₀ rest₀ left₀ out rest left = (n ≤ 65) × (0 < n) × (length out ≡ 65) × (length rest ≡ 65) × (sum (take n out) + left ≡ amount)
+Inv-loop sizes n amount all out₀ rest₀ left₀ out rest left = (n ≤ 66) × (0 < n) × (length out ≡ 66) × (length rest ≡ 66) × (sum (take n out) + left ≡ amount)
     × (gots (leftover left (paired (take n out) (take n rest))) ≡ shares amount (take n sizes))
     × (drop n out ≡ drop n out₀)
 
@@ -58,14 +58,14 @@ low c =
     let L = c .before .before .before .loop in
     pick-in (c .before .before .before .before .before .before .before .before .before .args .n) (c .first-max .result) (L .rest) (omega (arith, L .inv .0, L .inv .3)) (L .inv .1) (c .first-max .ensures)
 
-in65 : (c : tie.After-first-max Inv-loop μ-loop) → c .first-max .result < 65
-in65 c = omega (arith, low c, c .before .before .before .loop .inv .0)
+in-slots : (c : tie.After-first-max Inv-loop μ-loop) → c .first-max .result < 66
+in-slots c = omega (arith, low c, c .before .before .before .loop .inv .0)
 
 mul-x : tie.Need-mul-x Inv-loop μ-loop
-mul-x c = let l = in65 c in search needs
+mul-x c = let l = in-slots c in search needs
 
 element-copy-out-x : tie.Need-element-copy-out-x Inv-loop μ-loop
-element-copy-out-x c = let l = in65 c in search needs
+element-copy-out-x c = let l = in-slots c in search needs
 
 add-out : tie.Need-add-out Inv-loop μ-loop
 add-out c =
@@ -74,16 +74,16 @@ add-out c =
     omega (arith, share-most n (c .before .first-max .result) (L .out) (low (c .before)), L .inv .4, c .before .before .before .loop-test .taken)
 
 mul-out : tie.Need-mul-out Inv-loop μ-loop
-mul-out c = let l = in65 (c .before) in search needs
+mul-out c = let l = in-slots (c .before) in search needs
 
 element-write-out : tie.Need-element-write-out Inv-loop μ-loop
-element-write-out c = let l = in65 (c .before) in search needs
+element-write-out c = let l = in-slots (c .before) in search needs
 
 mul-rest : tie.Need-mul-rest Inv-loop μ-loop
-mul-rest c = let l = in65 (c .before) in search needs
+mul-rest c = let l = in-slots (c .before) in search needs
 
 array-write-rest : tie.Need-array-write-rest Inv-loop μ-loop
-array-write-rest c = let l = in65 (c .before) in search needs
+array-write-rest c = let l = in-slots (c .before) in search needs
 
 sub-left-2 : tie.Need-sub-left-2 Inv-loop μ-loop
 sub-left-2 c = search needs

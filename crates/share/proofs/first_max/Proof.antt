@@ -10,7 +10,7 @@ use Rattle.share.proofs.first_max.Statement.{statement}
 use Rattle.share.proofs.first_max.Tie as tie
 
 abbrev Inv-loop : tie.InvT-loop
-Inv-loop rest n at₀ most₀ i₀ at most i = (i ≤ n) × (n ≤ 65) × (length rest ≡ 65) × (maxFrom i at most (drop i (take n rest)) ≡ maxFrom 0 0 0 (take n rest))
+Inv-loop rest n at₀ most₀ i₀ at most i = (i ≤ n) × (n ≤ 66) × (length rest ≡ 66) × (maxFrom i at most (drop i (take n rest)) ≡ maxFrom 0 0 0 (take n rest))
 
 abbrev μ-loop : tie.MeasureT-loop
 μ-loop rest n at₀ most₀ i₀ at most i = n - i

@@ -11,7 +11,7 @@ use Rattle.share.proofs.in_turn.Statement.{statement}
 use Rattle.share.proofs.in_turn.Tie as tie
 
 abbrev Inv-loop : tie.InvT-loop
-Inv-loop sizes n amount out₀ m rest₀ i₀ out rest i = (i ≤ m) × (m ≤ 65) × (length sizes ≡ 65) × (length out ≡ 65) × (take i out ++ inTurn rest (drop i (take m sizes)) ≡ inTurn rest₀ (take m sizes))
+Inv-loop sizes n amount out₀ m rest₀ i₀ out rest i = (i ≤ m) × (m ≤ 66) × (length sizes ≡ 66) × (length out ≡ 66) × (take i out ++ inTurn rest (drop i (take m sizes)) ≡ inTurn rest₀ (take m sizes))
     × (drop m out ≡ drop m out₀)
 
 abbrev μ-loop : tie.MeasureT-loop

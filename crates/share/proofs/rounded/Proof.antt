@@ -13,7 +13,7 @@ use Rattle.share.proofs.rounded.Statement.{statement}
 use Rattle.share.proofs.rounded.Tie as tie
 
 abbrev Inv-loop : tie.InvT-loop
-Inv-loop sizes n amount all out₀ rest₀ i₀ out rest i = (i ≤ n) × (n ≤ 65) × (length sizes ≡ 65) × (length out ≡ 65) × (length rest ≡ 65) × (0 < all) × (all ≡ sum (take n sizes))
+Inv-loop sizes n amount all out₀ rest₀ i₀ out rest i = (i ≤ n) × (n ≤ 66) × (length sizes ≡ 66) × (length out ≡ 66) × (length rest ≡ 66) × (0 < all) × (all ≡ sum (take n sizes))
     × (take i out ++ gots (parts amount all (drop i (take n sizes))) ≡ gots (parts amount all (take n sizes)))
     × (take i rest ++ lefts (parts amount all (drop i (take n sizes))) ≡ lefts (parts amount all (take n sizes)))
     × (drop n out ≡ drop n out₀)

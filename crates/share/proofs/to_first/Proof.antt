@@ -17,7 +17,7 @@ element-write-out c = search needs
 kept : (c : tie.After-in-turn) → drop (c .before .before .args .n) (c .in-turn .last .1 .1 .1 .0) ≡ drop (c .before .before .args .n) (c .before .before .args .out .now)
 kept c =
     let n = c .before .before .args .n in
-    let m : min n 65 ≡ n = omega arith in
+    let m : min n 66 ≡ n = omega arith in
     let e = c .in-turn .ensures .2 in
     rw m at e
 

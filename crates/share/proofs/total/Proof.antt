@@ -9,7 +9,7 @@ use Rattle.share.proofs.total.Statement.{statement}
 use Rattle.share.proofs.total.Tie as tie
 
 abbrev Inv-loop : tie.InvT-loop
-Inv-loop sizes n t₀ i₀ t i = (i ≤ n) × (n ≤ 65) × (length sizes ≡ 65) × (t ≤ i * 4294967295) × (t + sum (drop i (take n sizes)) ≡ sum (take n sizes))
+Inv-loop sizes n t₀ i₀ t i = (i ≤ n) × (n ≤ 66) × (length sizes ≡ 66) × (t ≤ i * 4294967295) × (t + sum (drop i (take n sizes)) ≡ sum (take n sizes))
 
 abbrev μ-loop : tie.MeasureT-loop
 μ-loop sizes n t₀ i₀ t i = n - i

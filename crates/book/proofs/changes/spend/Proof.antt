@@ -13,7 +13,7 @@ use Rattle.book.proofs.changes.spend.Tie as tie
 
 abbrev Inv-loop : tie.InvT-loop
 Inv-loop words₀ gave id took m k₀ words k =
-    (k ≤ m) × (m ≡ openCount words₀) × Passed L.units (λ i u. u ≡ getD words₀ (L.units + i) 0 - pick (eqb (getD words₀ (L.ids + i) 0) id) took (getD gave (i + 1) 0)) words₀ words k
+    (k ≤ m) × (m ≡ openCount words₀) × Passed L.units (λ i u. u ≡ getD words₀ (L.units + i) 0 - pick (eqb (getD words₀ (L.ids + i) 0) id) took (getD gave (i + 2) 0)) words₀ words k
 
 abbrev μ-loop : tie.MeasureT-loop
 μ-loop words₀ gave id took m k₀ words k = m - k

@@ -14,7 +14,7 @@ use Rattle.execution.proofs.offers.book_interest.Tie as tie
 
 abbrev Inv-loop : tie.InvT-loop
 Inv-loop words mode k tiers₀ units₀ m buy last i₀ tiers units i =
-    (i ≤ m) × (m ≡ openCount words) × (length tiers ≡ 65) × (length units ≡ 65) × (buy ≡ flag (getD words (L.buys + k) 0)) × (last ≡ keyOf buy (getD words (L.prices + k) 0))
+    (i ≤ m) × (m ≡ openCount words) × (length tiers ≡ 66) × (length units ≡ 66) × (buy ≡ flag (getD words (L.buys + k) 0)) × (last ≡ keyOf buy (getD words (L.prices + k) 0))
     × ((longs : List ℕ) → Stand (bookOffer (modeOf mode) longs words k) i tiers units)
 
 abbrev μ-loop : tie.MeasureT-loop
