@@ -28,6 +28,8 @@ const ROUNDS: usize = 60;
 /// Runs of one engine before the other's turn, so that what the other left in the caches matters less.
 const RUNS: usize = 3;
 const SEEDS: Range<u64> = 1..21;
+/// Openings that are timed together, since the clock takes as long as a part of one.
+const OPENINGS: usize = 16;
 
 /// Nanoseconds of the proved library and of the plain program.
 #[derive(Clone, Copy)]
@@ -59,18 +61,19 @@ impl Times {
     }
 }
 
-/// How a tape is run: from its bytes to its lines; without text, message by message, or record by record from their bytes; or
-/// from its bytes to those of its form.
+/// How a tape is run: from its bytes to its lines; without text, message by message, or record by record from their bytes;
+/// from its bytes to those of its form; or its opening alone.
 #[derive(Clone, Copy)]
 enum Way {
     Print,
     Step,
     Record,
     Form,
+    Open,
 }
 
 impl Way {
-    const ALL: [Way; 4] = [Way::Print, Way::Step, Way::Record, Way::Form];
+    const ALL: [Way; 5] = [Way::Print, Way::Step, Way::Record, Way::Form, Way::Open];
 }
 
 /// A tape, what the second program says of it, and each engine's best time.
@@ -129,16 +132,20 @@ impl Script {
         Script { legs, settings, messages, list: vec![Fill::BLANK; FillList::LEAST_PLACES], records, proved }
     }
 
+    fn open_plain(&self) -> Option<Engine> {
+        Engine::open(&self.legs, &self.settings).ok()
+    }
+
     /// How many fills the second program gives for the messages.
     fn step_plain(&mut self) -> usize {
-        let Ok(mut engine) = Engine::open(&self.legs, &self.settings) else { return 0 };
+        let Some(mut engine) = self.open_plain() else { return 0 };
         let messages = self.messages.iter();
         messages.map(|message| engine.apply(black_box(message), &mut self.list).fill_count()).sum()
     }
 
     /// And for the bytes of the records.
     fn record_plain(&mut self) -> usize {
-        let Ok(mut engine) = Engine::open(&self.legs, &self.settings) else { return 0 };
+        let Some(mut engine) = self.open_plain() else { return 0 };
         let records = self.records.chunks_exact(Record::BYTES);
         let messages = records.filter_map(|record| Record::read(black_box(record)).message());
         messages.map(|message| engine.apply(&message, &mut self.list).fill_count()).sum()
@@ -182,13 +189,19 @@ impl Track {
         &self.rounds[way as usize]
     }
 
-    /// The bytes that the library writes, none of a tape that has no form, or how many fills it gives.
+    /// How many legs are opened; none where the opening is refused.
+    fn opened(&self) -> usize {
+        self.script.open_plain().map_or(0, |_| self.script.legs.len())
+    }
+
+    /// The bytes that the library writes, none of a tape that has no form, how many fills it gives, or how many openings pass.
     fn run_proved(&mut self, way: Way) -> usize {
         match way {
             Way::Print => tumghavi::print_into(black_box(&self.tape), &mut self.out),
             Way::Step => self.script.proved.step(),
             Way::Record => self.script.proved.record(),
             Way::Form => tumghavi::form(black_box(&self.tape), &mut self.lent).unwrap_or(0),
+            Way::Open => (0..OPENINGS).filter(|_| black_box(&self.script.proved).open().is_some()).count(),
         }
     }
 
@@ -199,6 +212,7 @@ impl Track {
             Way::Step => self.script.step_plain(),
             Way::Record => self.script.record_plain(),
             Way::Form => write_form(black_box(&self.tape), &mut self.lent).unwrap_or(0),
+            Way::Open => (0..OPENINGS).filter(|_| black_box(&self.script).open_plain().is_some()).count(),
         }
     }
 
@@ -350,6 +364,7 @@ impl Bench {
             let Times { proved, plain } = times;
             println!("| {name} | {} | {proved:.0} | {plain:.0} | {:.1} |", tracks.len(), times.ratio());
         }
+        print_openings(&self.groups);
         println!("\n## A message at a time, without text\n");
         print_profiles(&others, Way::Step);
         println!("\n## A record at a time, from its bytes\n");
@@ -375,6 +390,19 @@ fn print_profile<'a>(name: &str, tracks: impl Iterator<Item = &'a Track> + Clone
     let Times { proved, plain } = times;
     let speeds = format!("{:.0} | {:.0}", 1e9 / proved, 1e9 / plain);
     println!("| {name} | {messages} | {fills} | {speeds} | {proved:.0} | {plain:.0} | {:.1} |", times.ratio());
+}
+
+/// The table of openings, with a row for each number of legs and one for those that are refused.
+fn print_openings(groups: &[Group]) {
+    println!("\n## An opening\n");
+    println!("| | Openings | Proved, ns | Plain, ns | Ratio |\n|---|--:|--:|--:|--:|");
+    for (name, legs) in [("2 legs", 2), ("3 legs", 3), ("4 legs", 4), ("refused", 0)] {
+        let tracks = groups.iter().flat_map(|group| &group.tracks);
+        let tracks = tracks.filter(|track| !track.script.legs.is_empty() && track.opened() == legs);
+        let openings = tracks.clone().count();
+        let times = Times::sum(tracks, Way::Open).per(openings * OPENINGS);
+        println!("| {name} | {openings} | {:.0} | {:.0} | {:.1} |", times.proved, times.plain, times.ratio());
+    }
 }
 
 /// One table, with a cell for each pair.

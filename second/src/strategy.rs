@@ -3,6 +3,7 @@
 
 use crate::{refuse_if, Refusal};
 use std::ops::RangeInclusive;
+use std::sync::OnceLock;
 
 /// "All in cents."
 pub type Cents = i32;
@@ -121,17 +122,78 @@ impl Leg {
     }
 }
 
-/// The third Friday of a month of 20yy, by the weekday rule from "1 January 2000 was a Saturday".
+/// The third Friday of a month of 20yy. The days are counted once in a process.
 pub fn third_friday(year: u32, month: u32) -> u32 {
-    const DAYS_BEFORE: [u32; 12] = [0, 31, 59, 90, 120, 151, 181, 212, 243, 273, 304, 334];
-    // Each year from 2000 to 2099 that four divides is a leap year.
-    let leap_days_before = year.div_ceil(4);
-    let leap_day_passed = u32::from(year.is_multiple_of(4) && month > 2);
-    let days = year * 365 + leap_days_before + DAYS_BEFORE[(month - 1) as usize] + leap_day_passed;
-    // The first of the month: 0 a Saturday, up to 6 a Friday.
-    let weekday = days % 7;
-    let first_friday = 7 - weekday;
-    first_friday + 14
+    static COUNTED: OnceLock<Century> = OnceLock::new();
+    COUNTED.get_or_init(walk_century)[year as usize][month as usize - 1]
+}
+
+/// A day of the month for each of the months of 2000 to 2099.
+type Century = [[u32; 12]; 100];
+
+/// "1 January 2000 was a Saturday", and from there day by day (M-104): the third Fridays met.
+fn walk_century() -> Century {
+    let mut third_fridays = [[0; 12]; 100];
+    let mut weekday = Weekday::Saturday;
+    for (year, months) in (2000..).zip(&mut third_fridays) {
+        for (month, third_friday) in (1..).zip(months) {
+            (*third_friday, weekday) = walk_month(weekday, days_of_month(year, month));
+        }
+    }
+    third_fridays
+}
+
+/// From the weekday of a month's first day: its third Friday, and the weekday after its last day.
+fn walk_month(first: Weekday, days: u32) -> (u32, Weekday) {
+    let mut weekday = first;
+    let mut fridays = Vec::new();
+    for day in 1..=days {
+        if weekday == Weekday::Friday {
+            fridays.push(day);
+        }
+        weekday = weekday.next();
+    }
+    (fridays[2], weekday)
+}
+
+fn days_of_month(year: u32, month: u32) -> u32 {
+    match month {
+        2 if is_leap(year) => 29,
+        2 => 28,
+        4 | 6 | 9 | 11 => 30,
+        _ => 31,
+    }
+}
+
+/// The Gregorian rule: a year that 4 divides, but of those that 100 divides only one that 400 does.
+fn is_leap(year: u32) -> bool {
+    year.is_multiple_of(4) && (!year.is_multiple_of(100) || year.is_multiple_of(400))
+}
+
+#[derive(Clone, Copy, PartialEq, Eq)]
+enum Weekday {
+    Saturday,
+    Sunday,
+    Monday,
+    Tuesday,
+    Wednesday,
+    Thursday,
+    Friday,
+}
+
+impl Weekday {
+    /// The weekday of the next day.
+    fn next(self) -> Weekday {
+        match self {
+            Weekday::Saturday => Weekday::Sunday,
+            Weekday::Sunday => Weekday::Monday,
+            Weekday::Monday => Weekday::Tuesday,
+            Weekday::Tuesday => Weekday::Wednesday,
+            Weekday::Wednesday => Weekday::Thursday,
+            Weekday::Thursday => Weekday::Friday,
+            Weekday::Friday => Weekday::Saturday,
+        }
+    }
 }
 
 /// "Worked out by Euclid's rule, each step calling itself on a smaller pair."

@@ -174,27 +174,42 @@ fn third_friday_of_a_symbol() {
     session.is_refused(3);
 }
 
-/// "The third Fridays are a constant table of 1,200 days of the month, January 2000 first; 1
-/// January 2000 was a Saturday": counted here day by day.
+/// Third Fridays as a calendar shows them.
 #[test]
-fn third_fridays_counted_day_by_day() {
-    let mut weekday = 0; // Saturday
+fn third_fridays_of_a_calendar() {
+    let known = [
+        (0, 1, 21), // "1 January 2000 was a Saturday": no third Friday is later in its month.
+        (0, 2, 18),
+        (0, 3, 17),  // After the leap day.
+        (0, 12, 15), // 1 December 2000 was a Friday: no third Friday is earlier in its month.
+        (26, 1, 16), // Document 01's own case.
+        (96, 2, 17), // Before the century's last leap day,
+        (96, 3, 16), // and after it.
+        (99, 12, 18),
+    ];
+    for (year, month, day) in known {
+        assert_eq!(third_friday(year, month), day, "20{year:02}-{month:02}");
+    }
+}
+
+/// A third Friday is one of the days 15 to 21, and four or five weeks after the one before. Of
+/// seven days only one is: no other days of the 1,200 months pass.
+#[test]
+fn third_fridays_four_or_five_weeks_apart() {
+    // 17 December 1999 was a third Friday.
+    let mut rest_of_month = 31 - 17;
     for year in 0..100 {
         let february = if year % 4 == 0 { 29 } else { 28 };
         let days = [31, february, 31, 30, 31, 30, 31, 31, 30, 31, 30, 31];
         for (month, days) in (1..).zip(days) {
-            let mut fridays = Vec::new();
-            for day in 1..=days {
-                if weekday == 6 {
-                    fridays.push(day);
-                }
-                weekday = (weekday + 1) % 7;
-            }
-            assert_eq!(
-                third_friday(year, month),
-                fridays[2],
-                "20{year:02}-{month:02}"
+            let day = third_friday(year, month);
+            let apart = rest_of_month + day;
+            assert!((15..=21).contains(&day), "20{year:02}-{month:02}: {day}");
+            assert!(
+                apart == 28 || apart == 35,
+                "20{year:02}-{month:02}: {apart}"
             );
+            rest_of_month = days - day;
         }
     }
 }

@@ -4,7 +4,7 @@ use mathlib.Core.Bool.{true, false}
 use mathlib.Core.List.{List, [], _∷_, _++_, map}
 use Prim.Native.Nat.{ℕ, zero, suc, _+_, _/_, _%_}
 use lib.IntN.{ℤ, pos, negsuc}
-use lib.ListN.{set, replicate, take}
+use lib.ListN.{set, replicate, take, drop}
 use Rattle.rules.specs.Series.{Symbol}
 use Rattle.rules.specs.Strategy.{Leg, Strategy, openingRefusal}
 use Rattle.rules.specs.Book.{count, isResponse}
@@ -123,6 +123,14 @@ c20 = symbolOf 6 2 0
 -- the spread with another first symbol
 abbrev pub series : Symbol → Strategy
 series s = usual (record { symbol = s; side = B; ratio = 1; mpv = 5 } ∷ leg 6 2 5 S 1 5 ∷ [])
+
+-- a number of two digits
+abbrev pub twoDigits : ℕ → List ℕ
+twoDigits n = (48 + n / 10) ∷ (48 + n % 10) ∷ []
+
+-- the spread with another date in its first symbol: year, month and day
+abbrev pub dated : ℕ → ℕ → ℕ → Strategy
+dated y m d = series (take 6 c20 ++ twoDigits y ++ twoDigits m ++ twoDigits d ++ drop 12 c20)
 
 -- the spread, and C 30 B 1
 abbrev pub three : List Leg
@@ -563,9 +571,18 @@ legSizeRows =
     (told (Ended byTime 3) (took 7 7 L legs 95 10 ∷ took 7 7 C (entry 20) 95 5 ∷ took 7 7 T legs 95 5 ∷ []) 1 0)
     ∷ []
 
+-- M-104, "Third Fridays by formula"
+abbrev pub thirdFridayRows : List Row
+thirdFridayRows =
+    -- "Every date is accepted or refused as it was": the first month, after the leap day of 2000, a month that begins on a Friday, a year without a leap day, the last month
+    row 86 (openings (dated 0 1 21 ∷ dated 0 3 17 ∷ dated 0 12 15 ∷ dated 1 3 16 ∷ dated 99 12 18 ∷ [])) (numbers (replicate 5 0))
+    -- the Fridays before and after; a day later, as if 2000 had no leap day; the fourth Friday of a month that begins on one; and in January the day of February
+    ∷ row 87 (openings (dated 0 1 14 ∷ dated 0 1 28 ∷ dated 0 3 18 ∷ dated 0 12 22 ∷ dated 0 1 18 ∷ [])) (numbers (replicate 5 3))
+    ∷ []
+
 -- the table
 abbrev pub sentences : List Row
-sentences = seriesRows ++ priceRows ++ lifeRows ++ auctionRows ++ executionRows ++ turnedBackRows ++ tapeRows ++ arrivalRows ++ averageRows ++ legSizeRows
+sentences = seriesRows ++ priceRows ++ lifeRows ++ auctionRows ++ executionRows ++ turnedBackRows ++ tapeRows ++ arrivalRows ++ averageRows ++ legSizeRows ++ thirdFridayRows
 
 -- the rules answer as it says
 unfoldable pub SentencesHold : Type 0

@@ -1,4 +1,4 @@
--- A symbol's parts: where its capitals end, its numbers of two digits, a strike of zeros, and a date within the table.
+-- A symbol's parts: where its capitals end, its numbers of two digits, a strike of zeros, and a month.
 use mathlib.Core.Path.{_≡_, refl, sym, ap, _∙_}
 use mathlib.Core.Bool.{Bool, true, false, _&&_, not, and-assoc, or-false}
 use mathlib.Core.List.{List, [], _∷_}
@@ -8,7 +8,7 @@ use borrow.Author.Tests.{eqb-true, eq-eqb, ne-eqb, le-leb, lt-ltb}
 use lib.Dec.{eqb, ltb}
 use lib.ListN.{length, getD, drop}
 use Rattle.rules.specs.Basics.{between, all}
-use Rattle.rules.specs.Series.{isCapital, isDigit, isSpace, isPadded, digits, yearOf, monthOf, goodRoot, goodDate, goodType, goodStrike, goodSymbol}
+use Rattle.rules.specs.Series.{isCapital, isDigit, isSpace, isPadded, digits, monthOf, goodRoot, goodDate, goodType, goodStrike, goodSymbol}
 use Rattle.rules.proofs.TestLaws.{and-left, and-right, between-low, between-high}
 use Rattle.series.specs.Parts.{part}
 use Rattle.series.proofs.PartLaws.{part-cons, part-end, part-rest}
@@ -82,28 +82,11 @@ strike-is s l =
 
 -- ---- the date
 
-pub date-of : (s : List ℕ) → goodSymbol s ≡ true → goodDate s ≡ true
+date-of : (s : List ℕ) → goodSymbol s ≡ true → goodDate s ≡ true
 date-of s g =
     let root : Bool = eqb (length s) 21 && goodRoot s in
     and-right root (goodDate s)
     (and-left (root && goodDate s) (goodType s) (and-left (root && goodDate s && goodType s) (goodStrike s) g))
 
-year-most : (s : List ℕ) → length s ≡ 21 → goodDate s ≡ true → yearOf s ≤ 99
-year-most s l d =
-    let a : Bool = isDigit (getD s 6 0) in
-    let b : Bool = isDigit (getD s 7 0) in
-    let six : (a && (b && all isDigit (part s 8 12))) ≡ true =
-    sym (ap (all isDigit) (part-cons s 6 12 (omega arith) (omega arith) ∙ ap (λ (r : List ℕ). getD s 6 0 ∷ r) (part-cons s 7 12 (omega arith) (omega arith))))
-    ∙ and-left (all isDigit (part s 6 12)) (between 1 (monthOf s) 12) d
-    in
-    let p : getD s 6 0 ≤ 57 = between-high 48 (getD s 6 0) 57 (and-left a (b && all isDigit (part s 8 12)) six) in
-    let q : getD s 7 0 ≤ 57 = between-high 48 (getD s 7 0) 57 (and-left b (all isDigit (part s 8 12)) (and-right a (b && all isDigit (part s 8 12)) six)) in
-    omega (arith, digits-two s 6 (omega arith))
-
--- a good date's month stands in the table
-pub month-in : (s : List ℕ) → length s ≡ 21 → goodDate s ≡ true → (1 ≤ monthOf s) × (yearOf s * 12 + (monthOf s - 1) < 1_200)
-month-in s l d =
-    let m : between 1 (monthOf s) 12 ≡ true = and-right (all isDigit (part s 6 12)) (between 1 (monthOf s) 12) d in
-    let low : 1 ≤ monthOf s = between-low 1 (monthOf s) 12 m in
-    let high : monthOf s ≤ 12 = between-high 1 (monthOf s) 12 m in
-    (low, omega (arith, year-most s l d))
+pub month-least : (s : List ℕ) → goodSymbol s ≡ true → 1 ≤ monthOf s
+month-least s g = between-low 1 (monthOf s) 12 (and-right (all isDigit (part s 6 12)) (between 1 (monthOf s) 12) (date-of s g))

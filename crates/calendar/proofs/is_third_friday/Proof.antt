@@ -1,37 +1,21 @@
--- The constant is the table that the weekday rule gives, by computation, and that table's law says the rest.
-use mathlib.Core.Path.{sym, ap, subst, _∙_}
-use mathlib.Core.Bool.{Bool, _&&_}
-use Prim.Native.Nat.{ℕ, _<_}
-use native.Mathlib.Omega.{arith}
-use mir.Val.{Fits}
-use mir.Syntax.{w32}
+-- The day is compared with the formula's, which the weekday rule accepts and no other.
+use mathlib.Core.Path.{sym, ap, _∙_}
+use Prim.Native.Nat.{ℕ}
 use borrow.Author.Needs.{needs}
-use borrow.Author.Tests.{lt-ltb, le-ltb}
-use Rattle.rules.specs.Series.{isThirdFriday, thirdFridays, ThirdFridaysFixed}
-use Rattle.rules.proofs.SeriesLaws.{table-at, third-fridays}
+use lib.Dec.{eqb}
+use Rattle.rules.specs.Series.{ThirdFridaysFixed}
+use Rattle.rules.proofs.SeriesLaws.{third-fridays}
 use Rattle.calendar.proofs.is_third_friday.Statement.{statement}
 use Rattle.calendar.proofs.is_third_friday.Tie as tie
 
+third-friday-requires : tie.Need-third-friday-requires
+third-friday-requires c κs = search needs
+
 returns : tie.Need-returns
+unfolding ThirdFridaysFixed
 returns c =
     let a = c .before .args in
-    sym (ap (λ (b : Bool). b && isThirdFriday (a .month) (a .day)) (le-ltb (a .month) 1_200 (omega arith)))
-
-array-read-result : tie.Need-array-read-result
-array-read-result c = search needs
-
-cast-result : tie.Need-cast-result
-unfolding thirdFridays
-cast-result c =
-    let h : c .before .args .month < 1_200 = omega arith in
-    subst (λ (d : ℕ). Fits w32 d) (sym (table-at (c .before .args .month) h)) (record { fits = omega arith })
-
-returns-2 : tie.Need-returns-2
-unfolding thirdFridays ThirdFridaysFixed
-returns-2 c =
-    let a = c .before .args in
-    let h : a .month < 1_200 = omega arith in
-    sym (ap (λ (b : Bool). b && isThirdFriday (a .month) (a .day)) (lt-ltb (a .month) 1_200 h) ∙ third-fridays .1 (a .month) (a .day) h)
+    ap (λ (d : ℕ). eqb (a .day) d) (c .third-friday .ensures) ∙ sym (third-fridays (a .month) (a .day))
 
 pub is-third-friday-spec : {M : Type 1} → statement M
-is-third-friday-spec = tie.close (tie.spec returns array-read-result cast-result returns-2)
+is-third-friday-spec = tie.close (tie.spec third-friday-requires returns)

@@ -1,13 +1,11 @@
--- A good symbol's month stands in the table, so the calendar's answer is the weekday rule's.
-use mathlib.Core.Path.{_≡_, sym, ap, _∙_}
+-- The calendar's answer is the weekday rule's; a good symbol's month is 1 or more.
+use mathlib.Core.Path.{sym, ap, _∙_}
 use mathlib.Core.Bool.{Bool, _&&_}
-use Prim.Native.Nat.{_+_, _-_, _*_, _≤_, _<_}
 use native.Mathlib.Omega.{arith}
-use borrow.Author.Tests.{lt-ltb, not-true, not-false}
+use borrow.Author.Tests.{not-true, not-false}
 use borrow.Author.Needs.{needs}
-use lib.ListN.{length}
-use Rattle.rules.specs.Series.{isThirdFriday, onThirdFriday}
-use Rattle.series.proofs.SymbolLaws.{date-of, month-in}
+use Rattle.rules.specs.Series.{onThirdFriday}
+use Rattle.series.proofs.SymbolLaws.{month-least}
 use Rattle.series.proofs.judge.Statement.{statement}
 use Rattle.series.proofs.judge.Tie as tie
 
@@ -31,17 +29,11 @@ pair-requires-3 c κs = search needs
 mul-is-third-friday : tie.Need-mul-is-third-friday
 mul-is-third-friday c = search needs
 
--- the month stands in the table
-in-table : (c : tie.After-pair3) → (1 ≤ c .before .pair2 .result) × (c .before .before .pair .result * 12 + (c .before .pair2 .result - 1) < 1_200)
-in-table c =
-    let B = c .before .before .before .before in
-    let s = B .before .args .symbol in
-    let l : length s ≡ 21 = search needs in
-    rw (c .before .before .pair .ensures .0, c .before .pair2 .ensures .0)
-    (month-in s l (date-of s (sym (B .good-symbol .ensures) ∙ not-false _ (c .before .before .before .if1 .left))))
-
 sub-is-third-friday : tie.Need-sub-is-third-friday
-sub-is-third-friday c = omega (arith, in-table c .0)
+sub-is-third-friday c =
+    let B = c .before .before .before .before in
+    let good = sym (B .good-symbol .ensures) ∙ not-false _ (c .before .before .before .if1 .left) in
+    omega (arith, c .before .pair2 .ensures .0, month-least (B .before .args .symbol) good)
 
 add-is-third-friday : tie.Need-add-is-third-friday
 add-is-third-friday c = search needs
@@ -54,11 +46,9 @@ returns-2 c =
     let P = c .before in
     let B = P .before .before .before .before in
     let s = B .before .args .symbol in
-    let m = P .before .before .pair .result * 12 + (P .before .pair2 .result - 1) in
     let good = sym (B .good-symbol .ensures) ∙ not-false _ (P .before .before .before .if1 .left) in (
       sym good,
       c .is-third-friday .ensures
-          ∙ ap (λ (b : Bool). b && isThirdFriday m (P .pair3 .result)) (lt-ltb m 1_200 (in-table P .1))
           ∙ rw (P .before .before .pair .ensures .0, P .before .pair2 .ensures .0, P .pair3 .ensures .0) (sym (ap (λ (b : Bool). b && onThirdFriday s) good)),
     )
 
