@@ -108,6 +108,10 @@ fn cancel(id: u32) -> Record {
     Record { id, participant: 1, ..record(6) }
 }
 
+fn reduce(id: u32, units: u32) -> Record {
+    Record { id, participant: 1, units, ..record(8) }
+}
+
 fn clock() -> Record {
     record(7)
 }
@@ -117,12 +121,15 @@ fn market() -> Vec<Record> {
     vec![local(0, 220, 240, 50), local(1, 110, 120, 50), national(0, 219, 241), national(1, 109, 121)]
 }
 
+/// The units of an open order: enough to be reduced one by one by all messages of a tape.
+const UNITS: u32 = 999_999;
+
 /// An order that trades with nobody: buyers from 97 down, sellers from 132 up.
 fn resting(id: u32) -> Record {
     let away = 32 + id as Cents / 2;
     match id % 2 {
-        0 => order(id, b'B', 5, 130 - away),
-        _ => order(id, b'S', 5, 100 + away),
+        0 => order(id, b'B', UNITS, 130 - away),
+        _ => order(id, b'S', UNITS, 100 + away),
     }
 }
 
@@ -139,7 +146,7 @@ struct Steady {
 type MakeMessage = fn(&Steady, u32) -> Option<Record>;
 
 /// Whether it is refused, what it is, and the message.
-const MESSAGES: [(bool, &str, MakeMessage); 8] = [
+const MESSAGES: [(bool, &str, MakeMessage); 11] = [
     (false, "local quote", |_, k| Some(local(0, 219 + k as Cents % 2, 240, 50))),
     (false, "national quote", |_, k| Some(national(0, 218 + k as Cents % 2, 241))),
     (false, "clock", |_, _| Some(clock())),
@@ -147,10 +154,16 @@ const MESSAGES: [(bool, &str, MakeMessage); 8] = [
         let id = state.outside_queue(k / 2)?;
         Some(if k % 2 == 0 { cancel(id) } else { resting(id) })
     }),
+    (false, "order that joins the queue, and its cancel", |state, k| {
+        let free = state.auction && state.orders < 32;
+        free.then(|| if k % 2 == 0 { asking(order(99, b'B', 5, 124)) } else { cancel(99) })
+    }),
+    (false, "reduce", |state, k| Some(reduce(1 + k % state.orders, UNITS - 1 - k / state.orders))),
     (false, "modify", |state, k| Some(modify(k.checked_rem(state.responses)?, 1 + k % 9))),
     (true, "time before the last (11)", |_, _| Some(at(0, clock()))),
     (true, "order under an open id (31)", |state, k| Some(resting(1 + k % state.orders))),
     (true, "cancel of no open order (50)", |_, _| Some(cancel(999))),
+    (true, "reduce to the open units (71)", |state, k| Some(reduce(1 + k % state.orders, UNITS))),
 ];
 
 /// Without an auction there are at most 32 orders; with one, half of what is open are responses.
@@ -161,7 +174,7 @@ fn steady_states() -> Vec<Steady> {
 }
 
 impl Steady {
-    /// One of the orders that may be cancelled.
+    /// One of the orders whose cancel leaves the auction as it is.
     fn outside_queue(&self, k: u32) -> Option<u32> {
         let queue = u32::from(self.auction);
         Some(queue + 1 + k.checked_rem(self.orders - queue)?)
@@ -171,7 +184,7 @@ impl Steady {
         let mut records = market();
         records.extend((u32::from(self.auction)..self.orders).map(|k| resting(k + 1)));
         if self.auction {
-            records.push(asking(order(1, b'B', 50, 125)));
+            records.push(asking(order(1, b'B', UNITS, 125)));
         }
         records.extend((0..self.responses).map(|n| response(n, 120)));
         records

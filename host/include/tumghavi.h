@@ -57,14 +57,18 @@ enum {
     TUMGHAVI_RESPONSE = 4,
     TUMGHAVI_MODIFY = 5,
     TUMGHAVI_CANCEL = 6,
-    TUMGHAVI_CLOCK = 7
+    TUMGHAVI_CLOCK = 7,
+    TUMGHAVI_REDUCE = 8
 };
 
 enum { TUMGHAVI_BUY = 'B', TUMGHAVI_SELL = 'S' };
 
 enum { TUMGHAVI_CUSTOMER = 1, TUMGHAVI_OTHER = 2 };
 
-/* Fields that its kind does not use are ignored. units and price are a quote's bid size and bid; prices are in cents. */
+/*
+ * Fields that its kind does not use are ignored. units and price are a quote's bid size and bid, units the new open units of an
+ * order that is reduced; prices are in cents.
+ */
 typedef struct tumghavi_message {
     uint8_t kind;
     uint8_t side;
@@ -95,7 +99,7 @@ enum {
 };
 
 /* The causes of an end. */
-enum { TUMGHAVI_BY_TIME = 1, TUMGHAVI_BY_ORDER = 2, TUMGHAVI_BY_LEGS = 3 };
+enum { TUMGHAVI_BY_TIME = 1, TUMGHAVI_BY_ORDER = 2, TUMGHAVI_BY_LEGS = 3, TUMGHAVI_BY_CANCEL = 4 };
 
 /*
  * An outcome. What it does not have is 0: cause is an end's, number a refusal's, deadline that of an auction begun; units are

@@ -50,6 +50,8 @@ pub enum Message {
     Cancel { time: u64, id: u32, participant: u32 },
     /// A clock.
     Clock { time: u64 },
+    /// An order's new open units.
+    Reduce { time: u64, id: u32, participant: u32, units: u32 },
     /// The fields of a record as they stand, of any kind or none.
     Record(Record),
 }
@@ -58,7 +60,7 @@ pub enum Message {
 #[repr(C)]
 #[derive(Clone, Copy, PartialEq, Eq, Debug, Default)]
 pub struct Record {
-    /// One of the seven below.
+    /// One of the eight below.
     pub kind: u8,
     /// The letter B or S.
     pub side: u8,
@@ -70,7 +72,7 @@ pub struct Record {
     pub id: u32,
     /// Whose it is.
     pub participant: u32,
-    /// Units, or a quote's bid size.
+    /// Units, those still open of an order that is reduced, or a quote's bid size.
     pub units: u32,
     /// The limit, or a quote's bid.
     pub price: i32,
@@ -100,6 +102,8 @@ impl Record {
     pub const CANCEL: u8 = 6;
     /// Of a clock.
     pub const CLOCK: u8 = 7;
+    /// Of a reduce.
+    pub const REDUCE: u8 = 8;
 
     /// A record of a kind at a time, with nothing else in it.
     fn new(kind: u8, time: u64) -> Record {
@@ -141,6 +145,9 @@ impl Message {
                 Record { id, participant, ..Record::new(Record::CANCEL, time) }
             }
             Message::Clock { time } => Record::new(Record::CLOCK, time),
+            Message::Reduce { time, id, participant, units } => {
+                Record { id, participant, units, ..Record::new(Record::REDUCE, time) }
+            }
             Message::Record(record) => record,
         }
     }

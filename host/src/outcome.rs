@@ -52,6 +52,8 @@ pub enum Cause {
     Order,
     /// A local quote better than the initiator's limit.
     Legs,
+    /// The cancel of the last order in the queue.
+    Cancel,
 }
 
 /// The number that an opening, a message or a tape is refused with; as words it is docs/NUMBERS.md's sentence.
@@ -103,8 +105,9 @@ impl OutcomeRow {
     const ENDED: u32 = 5;
     const BY_TIME: u32 = 1;
     const BY_ORDER: u32 = 2;
+    const BY_LEGS: u32 = 3;
 
-    /// The library is proved to give one of six kinds, and one of three causes with an end: what is left is refused, and by the legs.
+    /// The library is proved to give one of six kinds, and one of four causes with an end: what is left is refused, and by a cancel.
     pub fn outcome(self) -> Outcome {
         let fills = self.fills as usize;
         match self.kind {
@@ -121,7 +124,8 @@ impl OutcomeRow {
         match self.cause {
             OutcomeRow::BY_TIME => Cause::Time,
             OutcomeRow::BY_ORDER => Cause::Order,
-            _ => Cause::Legs,
+            OutcomeRow::BY_LEGS => Cause::Legs,
+            _ => Cause::Cancel,
         }
     }
 }
@@ -162,9 +166,9 @@ impl Refusal {
             42 => "a new response: the id is open. A modification: no response of that id and participant",
             43 => "a new response: 32 are open",
             50 => "no open order has that id and participant",
-            51 => "the order is in the auction queue",
+            71 => "a reduce: the units are 0 or not below the open units",
             60 => "a tape has under 40 or over 65,535 bytes, or a section that is not empty overlaps the header or the other section or runs past the end",
-            61 => "a message's kind is not 1 to 7, or the bytes handed over as a record are not 36. A tape is turned back as a whole; live and the library refuse the one record",
+            61 => "a message's kind is not 1 to 8, or the bytes handed over as a record are not 36. A tape is turned back as a whole; live and the library refuse the one record",
             70 => "the buffer that is lent for a tape's form is shorter than the form",
             _ => "no number of this engine",
         }
@@ -177,6 +181,7 @@ impl fmt::Display for Cause {
             Cause::Time => "time",
             Cause::Order => "order",
             Cause::Legs => "legs",
+            Cause::Cancel => "cancel",
         })
     }
 }

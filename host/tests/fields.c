@@ -97,6 +97,11 @@ static int is_refused(tumghavi_outcome outcome, uint32_t number)
     return outcome.kind == TUMGHAVI_REFUSED && outcome.number == number && outcome.cause == 0 && outcome.fills == 0 && outcome.units == 0 && outcome.deadline == 0;
 }
 
+static int is_noted(tumghavi_outcome outcome)
+{
+    return outcome.kind == TUMGHAVI_NOTED && outcome.cause == 0 && outcome.number == 0 && outcome.fills == 0 && outcome.units == 0 && outcome.deadline == 0;
+}
+
 static tumghavi_message quote(uint8_t leg, int32_t bid, int32_t ask)
 {
     tumghavi_message message;
@@ -153,18 +158,15 @@ static void outcomes(void)
     opening.first_number = 1;
     opening.minimum = 1;
     EXPECT(tumghavi_open(&copy, &opening) == 0);
-    outcome = send(&copy, quote(0, 220, 240));
-    EXPECT(outcome.kind == TUMGHAVI_NOTED && outcome.cause == 0 && outcome.number == 0 && outcome.fills == 0 && outcome.units == 0 && outcome.deadline == 0);
-    outcome = send(&copy, quote(1, 110, 120));
-    EXPECT(outcome.kind == TUMGHAVI_NOTED);
+    EXPECT(is_noted(send(&copy, quote(0, 220, 240))));
+    EXPECT(is_noted(send(&copy, quote(1, 110, 120))));
     outcome = send(&copy, entry(TUMGHAVI_ORDER, 11, TUMGHAVI_BUY, 40, 125));
     EXPECT(outcome.kind == TUMGHAVI_BEGUN && outcome.deadline == 1007 && outcome.units == 0 && outcome.fills == 0);
     outcome = send(&copy, entry(TUMGHAVI_ORDER, 12, TUMGHAVI_BUY, 20, 125));
     EXPECT(outcome.kind == TUMGHAVI_JOINED && outcome.units == 60 && outcome.deadline == 0 && outcome.fills == 0);
     outcome = send(&copy, entry(TUMGHAVI_ORDER, 13, TUMGHAVI_SELL, 5, 140));
     EXPECT(outcome.kind == TUMGHAVI_PLACED && outcome.units == 5 && outcome.fills == 0 && outcome.deadline == 0);
-    outcome = send(&copy, entry(TUMGHAVI_RESPONSE, 21, TUMGHAVI_SELL, 30, -120));
-    EXPECT(outcome.kind == TUMGHAVI_NOTED);
+    EXPECT(is_noted(send(&copy, entry(TUMGHAVI_RESPONSE, 21, TUMGHAVI_SELL, 30, -120))));
     EXPECT(is_refused(send(&copy, entry(TUMGHAVI_RESPONSE, 21, TUMGHAVI_SELL, 30, 120)), 42));
     counts = tumghavi_counts(&copy);
     EXPECT(counts.orders == 3 && counts.responses == 1);
@@ -184,6 +186,44 @@ static void outcomes(void)
     EXPECT(!tumghavi_fill_is_legs(&fills[0]) && tumghavi_fill_contra(&fills[0]) == 21 && tumghavi_fill_price(&fills[0]) == -120);
     EXPECT(is_average(tumghavi_average(fills, outcome.fills, 11), -120, 0));
     EXPECT(is_none(tumghavi_average(fills, outcome.fills, 21)));
+}
+
+/* An auction whose orders are reduced and then cancelled, which ends it: a seller that was held goes live and sells to the legs. */
+static void cancels(void)
+{
+    tumghavi_opening opening = good_opening();
+    tumghavi_message reduce;
+    tumghavi_outcome outcome;
+    tumghavi_copy copy;
+    tumghavi_open_counts counts;
+    opening.first_number = 1;
+    opening.minimum = 1;
+    EXPECT(tumghavi_open(&copy, &opening) == 0);
+    EXPECT(is_noted(send(&copy, quote(0, 220, 240))));
+    EXPECT(is_noted(send(&copy, quote(1, 110, 120))));
+    EXPECT(send(&copy, entry(TUMGHAVI_ORDER, 11, TUMGHAVI_BUY, 40, 125)).kind == TUMGHAVI_BEGUN);
+    EXPECT(is_refused(send(&copy, entry(TUMGHAVI_REDUCE, 12, 0, 25, 0)), 50));
+    EXPECT(is_refused(send(&copy, entry(TUMGHAVI_REDUCE, 11, 0, 0, 0)), 71));
+    EXPECT(is_refused(send(&copy, entry(TUMGHAVI_REDUCE, 11, 0, 40, 0)), 71));
+    reduce = entry(TUMGHAVI_REDUCE, 11, 0, 25, 0);
+    reduce.participant = 4;
+    EXPECT(is_refused(send(&copy, reduce), 50));
+    reduce.participant = 3;
+    EXPECT(is_noted(send(&copy, reduce)));
+    EXPECT(is_refused(send(&copy, reduce), 71));
+    outcome = send(&copy, entry(TUMGHAVI_ORDER, 12, TUMGHAVI_BUY, 20, 125));
+    EXPECT(outcome.kind == TUMGHAVI_JOINED && outcome.units == 45);
+    EXPECT(send(&copy, entry(TUMGHAVI_ORDER, 13, TUMGHAVI_SELL, 5, 90)).kind == TUMGHAVI_PLACED);
+    EXPECT(is_noted(send(&copy, entry(TUMGHAVI_RESPONSE, 21, TUMGHAVI_SELL, 30, 120))));
+    EXPECT(is_noted(send(&copy, entry(TUMGHAVI_CANCEL, 11, 0, 0, 0))));
+    counts = tumghavi_counts(&copy);
+    EXPECT(counts.orders == 2 && counts.responses == 1);
+    outcome = send(&copy, entry(TUMGHAVI_CANCEL, 12, 0, 0, 0));
+    EXPECT(outcome.kind == TUMGHAVI_ENDED && outcome.cause == TUMGHAVI_BY_CANCEL && outcome.number == 0 && outcome.fills == 1 && outcome.units == 0 && outcome.deadline == 0);
+    EXPECT(fills[0].number == 9 && fills[0].order == 13 && tumghavi_fill_rank(&fills[0]) == 'L' && fills[0].units == 5);
+    EXPECT(tumghavi_fill_is_legs(&fills[0]) && tumghavi_fill_price(&fills[0]) == 100);
+    counts = tumghavi_counts(&copy);
+    EXPECT(counts.orders == 0 && counts.responses == 0);
 }
 
 /* A record of an order, at a biased price. */
@@ -270,7 +310,7 @@ static void forms(void)
     EXPECT(is_reply(tumghavi_form(tape, sizeof tape, out, 0), 70, 0));
     EXPECT(is_reply(tumghavi_form(tape, sizeof tape - 1, out, sizeof out), 60, 0));
     EXPECT(is_reply(tumghavi_form(tape, sizeof tape - 1, out, 0), 60, 0));
-    clock[0] = 8;
+    clock[0] = 0;
     EXPECT(is_reply(tumghavi_form(tape, sizeof tape, out, sizeof out), 61, 0));
     EXPECT(is_reply(tumghavi_form(tape, sizeof tape, out, 0), 61, 0));
     clock[0] = TUMGHAVI_CLOCK;
@@ -287,6 +327,7 @@ int main(void)
 {
     openings();
     outcomes();
+    cancels();
     averages();
     records();
     forms();

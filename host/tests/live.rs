@@ -74,7 +74,7 @@ fn auction(begins: u64) -> Vec<Record> {
 fn auctions(count: u64) -> Vec<u8> {
     let mut records = vec![quote(0, 220, 240), quote(1, 110, 120)];
     for k in 0..count {
-        records.push(Record { kind: 8, ..Record::default() });
+        records.push(Record::default());
         records.extend(auction(1 + k * INTERVAL));
     }
     let mut bytes = Vec::new();

@@ -85,6 +85,16 @@ fn sessions() -> impl Iterator<Item = Session> {
     })
 }
 
+/// The second program's cause of an end, in the library's words.
+fn cause_of(cause: engine::Cause) -> Cause {
+    match cause {
+        engine::Cause::Time => Cause::Time,
+        engine::Cause::Order => Cause::Order,
+        engine::Cause::Legs => Cause::Legs,
+        engine::Cause::Cancel => Cause::Cancel,
+    }
+}
+
 /// The second program's answer to a record, in the library's words, and the lines of its fills and their averages.
 fn expected(plain: &mut engine::Engine, record: &Record, fills: &mut [execution::Fill]) -> (Outcome, String) {
     let Some(message) = record.message() else { return (Outcome::Refused(Refusal::new(61)), String::new()) };
@@ -95,9 +105,7 @@ fn expected(plain: &mut engine::Engine, record: &Record, fills: &mut [execution:
         engine::Outcome::Placed { units, fills } => Outcome::Placed { units: units.into(), fills },
         engine::Outcome::Begun { deadline } => Outcome::Begun { deadline },
         engine::Outcome::Joined { queue_units } => Outcome::Joined { units: queue_units.into() },
-        engine::Outcome::Ended { cause: engine::Cause::Time, fills } => Outcome::Ended { cause: Cause::Time, fills },
-        engine::Outcome::Ended { cause: engine::Cause::Order, fills } => Outcome::Ended { cause: Cause::Order, fills },
-        engine::Outcome::Ended { cause: engine::Cause::Legs, fills } => Outcome::Ended { cause: Cause::Legs, fills },
+        engine::Outcome::Ended { cause, fills } => Outcome::Ended { cause: cause_of(cause), fills },
         engine::Outcome::Refused { number } => Outcome::Refused(Refusal::new(number.into())),
     };
     (outcome, lines)
@@ -132,7 +140,7 @@ fn keeps(before: (&Engine, &[Fill]), after: (&Engine, &[Fill]), outcome: Outcome
 fn message_by_message() {
     let mut fills = vec![execution::Fill::BLANK; FillList::LEAST_PLACES];
     let [mut list, mut list_of_fields, mut list_of_bytes] = [0; 3].map(|_| marked(Fill::LEAST_PLACES));
-    let mut messages = 0;
+    let (mut messages, mut reduced, mut ended_by_cancel) = (0, 0, 0);
     for session in sessions() {
         let Opened::Both(mut plain, mut proved) = session.open() else { continue };
         let (mut of_fields, mut of_bytes) = (proved.clone(), proved.clone());
@@ -151,9 +159,12 @@ fn message_by_message() {
             assert_eq!(proved.open_orders(), plain.book().orders().count(), "{what}");
             assert_eq!(proved.open_responses(), plain.book().responses().count(), "{what}");
             messages += 1;
+            reduced += usize::from(record.kind == 8 && matches!(outcome, Outcome::Noted { .. }));
+            ended_by_cancel += usize::from(matches!(outcome, Outcome::Ended { cause: Cause::Cancel, .. }));
         }
     }
     assert!(messages > 100_000, "{messages}");
+    assert!(reduced > 1_000 && ended_by_cancel > 100, "{reduced} and {ended_by_cancel}");
 }
 
 /// A copy that is saved after a random message and brought back goes on as the one that was not.

@@ -1,4 +1,5 @@
-//! "Order and auction life", the six outcomes, and "Where a message is turned back".
+//! "Order and auction life", the six outcomes, and "Where a message is turned back"; cancel and
+//! reduce during an auction (M-105).
 
 use crate::book::{Account, Book, Entry, Standing};
 use crate::execution::{Fill, FillList, Mode, Start, Turn, Watch};
@@ -36,12 +37,25 @@ pub enum Cause {
     Time,
     Order,
     Legs,
+    Cancel,
+}
+
+impl Cause {
+    pub fn word(self) -> &'static str {
+        match self {
+            Cause::Time => "time",
+            Cause::Order => "order",
+            Cause::Legs => "legs",
+            Cause::Cancel => "cancel",
+        }
+    }
 }
 
 /// A pending auction.
-#[derive(Clone, Copy, Debug)]
+#[derive(Clone, Copy, PartialEq, Eq, Debug)]
 pub struct Auction {
-    /// The initiator's side and limit.
+    /// The initiator's id, side and limit.
+    pub initiator: u32,
     pub side: Side,
     pub limit: Cents,
     pub deadline: u64,
@@ -68,6 +82,7 @@ enum Accepted {
     Response { entry: Entry },
     Modify { at: usize, side: Side, terms: Terms },
     Cancel { at: usize },
+    Reduce { at: usize, units: u32 },
     Clock,
 }
 
@@ -146,6 +161,11 @@ impl Engine {
             Request::Response { terms, account } => self.check_response(&terms, account),
             Request::Modify { terms } => self.check_modify(&terms),
             Request::Cancel { id, participant } => self.check_cancel(id, participant),
+            Request::Reduce {
+                id,
+                participant,
+                units,
+            } => self.check_reduce(id, participant, units),
             Request::Clock => Ok(Accepted::Clock),
         }
     }
@@ -210,8 +230,14 @@ impl Engine {
 
     fn check_cancel(&self, id: u32, participant: u32) -> Result<Accepted, Refusal> {
         let at = self.book.find_order(id, participant).ok_or(50)?;
-        refuse_if(self.book.entries()[at].standing == Standing::Queue, 51)?;
         Ok(Accepted::Cancel { at })
+    }
+
+    /// "71, after 50, meets a reduce whose units are 0 or not below the open units."
+    fn check_reduce(&self, id: u32, participant: u32, units: u32) -> Result<Accepted, Refusal> {
+        let at = self.book.find_order(id, participant).ok_or(50)?;
+        refuse_if(units == 0 || units >= self.book.entries()[at].units, 71)?;
+        Ok(Accepted::Reduce { at, units })
     }
 
     fn deadline_reached(&self, time: u64) -> bool {
@@ -258,8 +284,14 @@ impl Engine {
             Accepted::Response { entry } => self.book.add(entry),
             Accepted::Modify { at, side, terms } => self.modify(at, side, &terms),
             Accepted::Cancel { at } => {
-                self.book.remove(at);
+                let cancelled = self.book.remove(at);
+                if self.is_initiator(&cancelled) && !self.name_next_initiator() {
+                    // "If none is left, the auction ends."
+                    return self.end_auction(Cause::Cancel, &mut fills, watch);
+                }
             }
+            // "A reduced order keeps its arrival number", and all else.
+            Accepted::Reduce { at, units } => self.book.entry_mut(at).units = units,
             Accepted::Clock => {
                 if self.deadline_reached(time) {
                     return self.end_auction(Cause::Time, &mut fills, watch);
@@ -354,6 +386,7 @@ impl Engine {
         let deadline = time + u64::from(self.strategy.settings.interval);
         let derived = self.market.derived_contra(&self.strategy, initiator.side);
         self.auction = Some(Auction {
+            initiator: initiator.id,
             side: initiator.side,
             limit: initiator.limit,
             deadline,
@@ -371,6 +404,27 @@ impl Engine {
                 start.read(derived);
             }
         }
+    }
+
+    fn is_initiator(&self, order: &Entry) -> bool {
+        self.auction.is_some_and(|a| a.initiator == order.id)
+    }
+
+    /// "If the initiator is cancelled, the next queue order by price, then arrival, becomes the
+    /// initiator with the same deadline and starting leg price." False if none is left.
+    fn name_next_initiator(&mut self) -> bool {
+        let next = self.best_of_the_queue();
+        if let (Some(auction), Some(at)) = (&mut self.auction, next) {
+            let next = &self.book.entries()[at];
+            auction.initiator = next.id;
+            auction.limit = next.limit;
+        }
+        next.is_some()
+    }
+
+    /// The place of the first queue order by price, then arrival.
+    fn best_of_the_queue(&self) -> Option<usize> {
+        self.book.best(|e| e.standing == Standing::Queue)
     }
 
     fn queue_units(&self) -> u32 {
@@ -406,7 +460,7 @@ impl Engine {
     }
 
     /// "At the end queue orders execute by price, then arrival; remainders are held; all responses
-    /// expire; then the steps for no pending auction run."
+    /// expire; then the steps for no pending auction run." After a cancel the queue is empty.
     fn end_auction(
         &mut self,
         cause: Cause,
@@ -416,7 +470,7 @@ impl Engine {
         self.read_starting_price();
         let start = self.auction.take().and_then(|auction| auction.start);
         let mut mode = Mode::Queue { start };
-        while let Some(at) = self.book.best(|e| e.standing == Standing::Queue) {
+        while let Some(at) = self.best_of_the_queue() {
             self.turn(at, &mut mode, Standing::Held, fills, watch);
         }
         self.book.expire_responses();

@@ -1,9 +1,10 @@
 //! A tape told message by message: what each was, its outcome, the turns with what was open and
-//! how it was shared, the averages of the orders that executed, and why a message was turned back.
+//! how it was shared, the averages of the orders that executed, what a cancel or a reduce did, and
+//! why a message was turned back.
 
 use crate::average::{average, averages};
 use crate::book::{Account, Entry, Standing};
-use crate::engine::{Cause, Engine, Outcome};
+use crate::engine::{Engine, Outcome};
 use crate::execution::{Contra, Fill, FillList, Mode, Sharing, Turn, Watch};
 use crate::market::{Derived, LocalSide, Market};
 use crate::message::{Message, Request, Terms};
@@ -21,7 +22,7 @@ pub fn explain(bytes: &[u8]) -> String {
         Err(misfit) => format!("refused 0 60: {misfit} ({} bytes)\n", bytes.len()),
         Ok(tape) => match tape.first_wrong_kind() {
             Some((position, kind)) => {
-                format!("refused 0 61: message {position} has kind {kind}, not 1 to 7\n")
+                format!("refused 0 61: message {position} has kind {kind}, not 1 to 8\n")
             }
             None => explain_session(&tape),
         },
@@ -48,6 +49,9 @@ fn explain_session(tape: &Tape) -> String {
         text += &request(&message.request);
         text += "\n";
         text += &format!("  {}\n", answer(&outcome, &message, &before, &engine));
+        if !matches!(outcome, Outcome::Refused { .. }) {
+            text += &change_lines(&message.request, &before, &engine);
+        }
         text += &turns.text;
         let fills = &fills[..outcome.fill_count()];
         text += &average_lines(fills);
@@ -224,6 +228,11 @@ fn request(request: &Request) -> String {
         Request::Cancel { id, participant } => {
             format!("cancel of order {id} of participant {participant}")
         }
+        Request::Reduce {
+            id,
+            participant,
+            units,
+        } => format!("reduce of order {id} of participant {participant} to {units} units"),
         Request::Clock => "clock".to_string(),
     }
 }
@@ -261,17 +270,58 @@ fn answer(outcome: &Outcome, message: &Message, before: &Engine, after: &Engine)
             format!("number {number}: joins the queue, {queue_units} units in it")
         }
         Outcome::Ended { cause, fills } => {
-            let cause = match cause {
-                Cause::Time => "time",
-                Cause::Order => "order",
-                Cause::Legs => "legs",
-            };
+            let cause = cause.word();
             let fills = count_words(*fills);
             format!("number {number}: ends the auction, cause {cause}, {fills}")
         }
         Outcome::Refused { number } => {
             format!("refused {number}: {}", reason(before, message, *number))
         }
+    }
+}
+
+/// What an accepted cancel or reduce did, to the order and to the auction.
+fn change_lines(request: &Request, before: &Engine, after: &Engine) -> String {
+    let order = |id, participant| open_order(before, id, participant);
+    match *request {
+        Request::Cancel { id, participant } => order(id, participant).map(|order| {
+            let cancelled = format!("  cancelled: {}\n", entry_words(order));
+            cancelled + &initiator_lines(id, before, after)
+        }),
+        Request::Reduce {
+            id,
+            participant,
+            units,
+        } => order(id, participant).map(|order| {
+            let reduced = entry_words(&Entry { units, ..*order });
+            format!("  reduced from {} units: {reduced}\n", order.units)
+        }),
+        _ => None,
+    }
+    .unwrap_or_default()
+}
+
+fn open_order(engine: &Engine, id: u32, participant: u32) -> Option<&Entry> {
+    let at = engine.book().find_order(id, participant)?;
+    Some(&engine.book().entries()[at])
+}
+
+/// Who becomes the initiator in place of a cancelled one, or that nobody does.
+fn initiator_lines(cancelled: u32, before: &Engine, after: &Engine) -> String {
+    let was = before.auction().map(|auction| auction.initiator);
+    match after.auction() {
+        _ if was != Some(cancelled) => String::new(),
+        Some(auction) => {
+            let (id, limit, deadline) = (auction.initiator, auction.limit, auction.deadline);
+            let side = side_words(auction.side);
+            format!(
+                "  it was the initiator; order {id} becomes the initiator: {side} at {limit} or \
+                 better, deadline {deadline} as before\n"
+            ) + &start_line(after)
+        }
+        None => "  it was the initiator, and no queue order is left: the auction ends, and the \
+                 responses expire\n"
+            .to_string(),
     }
 }
 
@@ -380,6 +430,17 @@ fn filter_reason(engine: &Engine, terms: &Terms) -> String {
     )
 }
 
+/// Why an order is not reduced to so many units.
+fn units_reason(order: Option<&Entry>, units: u32) -> String {
+    match (order, units) {
+        (Some(order), 1..) => format!(
+            "{units} units are not below the {} open units of order {}",
+            order.units, order.id
+        ),
+        _ => "the new open units are 0".to_string(),
+    }
+}
+
 fn time_reason(engine: &Engine, time: u64) -> String {
     if time > Settings::MOST_TIME {
         format!("time {time} is above {}", Settings::MOST_TIME)
@@ -437,11 +498,24 @@ fn reason(engine: &Engine, message: &Message, number: Refusal) -> String {
             open_under(engine, terms.id)
         ),
         (43, _) => format!("{} responses open", engine.book().responses().count()),
-        (50, Request::Cancel { id, participant }) => format!(
+        (
+            50,
+            Request::Cancel { id, participant }
+            | Request::Reduce {
+                id, participant, ..
+            },
+        ) => format!(
             "no open order {id} of participant {participant}: {}",
             open_under(engine, *id)
         ),
-        (51, Request::Cancel { id, .. }) => format!("order {id} is in the queue"),
+        (
+            71,
+            Request::Reduce {
+                id,
+                participant,
+                units,
+            },
+        ) => units_reason(open_order(engine, *id, *participant), *units),
         _ => "see the table of refusals".to_string(),
     }
 }

@@ -2,6 +2,7 @@
 
 mod legsize;
 pub mod random;
+mod reduce;
 mod script;
 mod sessions;
 mod tapes;
@@ -27,7 +28,7 @@ const fn profile(
     }
 }
 
-pub const PROFILES: [Profile; 30] = [
+pub const PROFILES: [Profile; 31] = [
     profile("auction", "auctions, one after another", sessions::auction),
     profile("badkind", "a message of no kind: 61", sessions::bad_kind),
     profile(
@@ -48,7 +49,7 @@ pub const PROFILES: [Profile; 30] = [
     ),
     profile(
         "endings",
-        "auctions ended by time, order and legs",
+        "auctions ended by time, order, legs and cancel",
         sessions::endings,
     ),
     profile("filter", "orders around the price filter", sessions::filter),
@@ -108,6 +109,11 @@ pub const PROFILES: [Profile; 30] = [
         "ratios",
         "ratios that pass and that meet 5",
         sessions::ratios,
+    ),
+    profile(
+        "reduce",
+        "orders cancelled and reduced, in the queue and outside it",
+        reduce::reduce,
     ),
     profile(
         "size",

@@ -1,11 +1,11 @@
 //! The complex order auction of document 01, told again from the papers alone.
 //!
 //! The modules follow the document: [`strategy`] (Strategy and series, with M-104), [`market`]
-//! (Prices), [`book`] and [`engine`] (Order and auction life, Where a message is turned back),
-//! [`execution`] (Execution, with M-103), [`tape`] and [`print`] (Tape); [`form`] is the written
-//! form of a tape (M-100), [`average`] an executed order's average price (M-102), and [`live`] runs
-//! a session that never has to be a tape. Nothing here reads or writes anything but its arguments;
-//! the binary does that.
+//! (Prices), [`book`] and [`engine`] (Order and auction life, Where a message is turned back, with
+//! M-105), [`execution`] (Execution, with M-103), [`tape`] and [`print`] (Tape); [`form`] is the
+//! written form of a tape (M-100), [`average`] an executed order's average price (M-102), and
+//! [`live`] runs a session that never has to be a tape. Nothing here reads or writes anything but
+//! its arguments; the binary does that.
 
 pub mod average;
 pub mod book;

@@ -1,7 +1,7 @@
 //! A session as it happens: the opening, then one message after another, each answered at once.
 //! What is kept does not grow with the messages.
 
-use crate::engine::{Cause, Engine, Outcome};
+use crate::engine::{Engine, Outcome};
 use crate::execution::{Fill, FillList};
 use crate::print::fill_lines;
 use crate::strategy::{Leg, Strategy};
@@ -104,16 +104,8 @@ fn outcome_line(outcome: &Outcome) -> String {
         Outcome::Placed { units, fills } => format!("placed {units} {fills}\n"),
         Outcome::Begun { deadline } => format!("begun {deadline}\n"),
         Outcome::Joined { queue_units } => format!("joined {queue_units}\n"),
-        Outcome::Ended { cause, fills } => format!("ended {} {fills}\n", cause_word(*cause)),
+        Outcome::Ended { cause, fills } => format!("ended {} {fills}\n", cause.word()),
         Outcome::Refused { number } => refused_line(*number),
-    }
-}
-
-fn cause_word(cause: Cause) -> &'static str {
-    match cause {
-        Cause::Time => "time",
-        Cause::Order => "order",
-        Cause::Legs => "legs",
     }
 }
 

@@ -35,6 +35,12 @@ pub enum Request {
         id: u32,
         participant: u32,
     },
+    Reduce {
+        id: u32,
+        participant: u32,
+        /// The new open units.
+        units: u32,
+    },
     Clock,
 }
 

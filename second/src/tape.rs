@@ -88,8 +88,9 @@ pub struct Kind {
     pub fields: &'static [Field],
 }
 
-/// "Kinds: 1 local, 2 national, 3 order, 4 response, 5 modify, 6 cancel, 7 clock."
-pub const KINDS: [Kind; 7] = {
+/// "Kinds: 1 local, 2 national, 3 order, 4 response, 5 modify, 6 cancel, 7 clock", and "kind 8,
+/// reduce, which uses id, participant, units (the new open units) and time" (M-105).
+pub const KINDS: [Kind; 8] = {
     use Field::*;
     [
         Kind {
@@ -126,6 +127,11 @@ pub const KINDS: [Kind; 7] = {
             number: 7,
             word: "clock",
             fields: &[Time],
+        },
+        Kind {
+            number: 8,
+            word: "reduce",
+            fields: &[Id, Participant, Units, Time],
         },
     ]
 };
@@ -315,6 +321,11 @@ impl Record {
                 participant: self.participant,
             },
             7 => Request::Clock,
+            8 => Request::Reduce {
+                id: self.id,
+                participant: self.participant,
+                units: self.units,
+            },
             _ => return None,
         };
         Some(Message {

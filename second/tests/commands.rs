@@ -73,7 +73,7 @@ fn live_answers_at_once() {
                 "average 8 100 0",
             ],
         ),
-        (&[8; 36], &["refused 61"]),
+        (&[9; 36], &["refused 61"]),
         (&records[144..], &["refused 50"]),
     ];
     for (part, lines) in parts {

@@ -1,6 +1,7 @@
 //! `compare` with small shell scripts as the other program: this one itself, and wrong ones.
 
-use second::gen::PROFILES;
+use second::gen::{gen, PROFILES};
+use second::print::tapeprint;
 use std::path::PathBuf;
 use std::process::{Command, Output};
 
@@ -161,6 +162,9 @@ fn the_first_byte_of_a_form_that_differs_is_told() {
 /// Lines left out, lines too many, an end of line that is missing, and nothing at all.
 #[test]
 fn the_whole_output_counts() {
+    let printed = tapeprint(&gen("mix", 1).unwrap());
+    let last = printed.lines().last().unwrap();
+    let no_end = format!("COMMAND: \"{last}\"\n  second: \"{last}\\n\"\n");
     let wrong = [
         (
             "short",
@@ -177,11 +181,7 @@ fn the_whole_output_counts() {
             r#""$SECOND" tapeprint; exec yes"#,
             "COMMAND: \"y\\n\"\n  second: nothing",
         ),
-        (
-            "no-end",
-            r#"printf %s "$("$SECOND" tapeprint)""#,
-            "answers 1\"\n  second: \"open ",
-        ),
+        ("no-end", r#"printf %s "$("$SECOND" tapeprint)""#, &no_end),
         (
             "nothing",
             "exit 0",

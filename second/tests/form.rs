@@ -98,6 +98,8 @@ fn used(kind: u8) -> Vec<usize> {
         6 => &[(4, 12)],
         // Nothing.
         7 => &[],
+        // Id, participant, units.
+        8 => &[(4, 16)],
         _ => panic!("{kind} is no kind"),
     };
     let fields = fields.iter().flat_map(|&(from, to)| from..to);
@@ -153,7 +155,7 @@ fn sections_stand_at_40_and_straight_after() {
 
 #[test]
 fn unused_fields_are_zero_and_used_ones_stay() {
-    for kind in 1..=7 {
+    for kind in 1..=8 {
         let record = full_record(kind);
         let mut expected = [0; 36];
         used(kind).iter().for_each(|&at| expected[at] = record[at]);
@@ -167,23 +169,23 @@ fn unused_fields_are_zero_and_used_ones_stay() {
 #[test]
 fn any_wish_is_written_as_1_and_a_leg_as_it_is() {
     for byte in 0..=255 {
-        let records = [1, 2, 3, 4, 5, 6, 7].map(|kind| {
+        let records = [1, 2, 3, 4, 5, 6, 7, 8].map(|kind| {
             let mut record = full_record(kind);
             record[3] = byte;
             record
         });
         let messages = form_messages(&with_messages(&records));
         let written: Vec<u8> = messages.chunks(36).map(|record| record[3]).collect();
-        assert_eq!(written, [byte, byte, byte.min(1), 0, 0, 0, 0]);
+        assert_eq!(written, [byte, byte, byte.min(1), 0, 0, 0, 0, 0]);
     }
 }
 
 #[test]
 fn messages_keep_their_sequence() {
-    let records = [7, 3, 1, 6, 6, 2, 5, 4, 1].map(full_record);
+    let records = [7, 3, 8, 1, 6, 6, 2, 5, 8, 4, 1].map(full_record);
     let messages = form_messages(&with_messages(&records));
     let kinds: Vec<u8> = messages.chunks(36).map(|record| record[0]).collect();
-    assert_eq!(kinds, [7, 3, 1, 6, 6, 2, 5, 4, 1]);
+    assert_eq!(kinds, [7, 3, 8, 1, 6, 6, 2, 5, 8, 4, 1]);
 }
 
 // "Every tape the reader accepts" (reading a): whatever neither 60 nor 61 refuses.
@@ -229,11 +231,11 @@ fn a_refused_tape_has_no_form() {
         (parts.at(220, 40, 268)[..267].to_vec(), 60),
         // Of no kind.
         (with_messages(&[[0; 36]]).plain(), 61),
-        (with_messages(&[full_record(7), full_record(8)]).plain(), 61),
-        (with_messages(&[full_record(9)]).plain(), 61),
+        (with_messages(&[full_record(8), full_record(9)]).plain(), 61),
+        (with_messages(&[full_record(10)]).plain(), 61),
         (with_messages(&[full_record(255)]).plain(), 61),
         // Both.
-        (with_messages(&[full_record(8)]).at(40, 87, 124), 60),
+        (with_messages(&[full_record(9)]).at(40, 87, 124), 60),
     ];
     for (tape, refusal) in refusals {
         assert_eq!(form(&tape), Err(refusal));
@@ -298,12 +300,15 @@ fn wrong_values_in_used_fields_stay() {
     let mut modify = [0; 36];
     modify[..2].copy_from_slice(&[5, b'b']);
     modify[12..16].fill(0xff);
+    let mut reduce = [0; 36];
+    reduce[0] = 8;
+    reduce[12..16].fill(0xff);
     let mut local = [0; 36];
     local[..4].copy_from_slice(&[1, 0, 0, 200]);
     local[20..24].copy_from_slice(&i32::MIN.to_le_bytes());
     let mut national = [0; 36];
     national[..4].copy_from_slice(&[2, 0, 0, 255]);
-    let records = [order, response, modify, local, national];
+    let records = [order, response, modify, reduce, local, national];
     assert_eq!(form_messages(&with_messages(&records)), records.concat());
 }
 
@@ -536,7 +541,7 @@ fn a_buffer_too_short_is_refused_with_70_and_stays() {
 fn a_refused_tape_comes_before_a_short_buffer_and_leaves_it() {
     let (own, _) = own_case();
     let mut wrong_kind = own.clone();
-    wrong_kind[88 + 4 * 36] = 8;
+    wrong_kind[88 + 4 * 36] = 9;
     let both = &wrong_kind[..267];
     for (tape, refusal) in [(&own[..267], 60), (&wrong_kind, 61), (both, 60)] {
         for length in [0, 1, 267, 268, 70_000] {

@@ -1,17 +1,19 @@
 //! The random tapes use every rule: over a few seeds each refusal number, outcome, cause and rank
 //! occurs, and often enough.
 
+use second::book::{Entry, Standing};
 use second::engine::{Cause, Engine, Outcome};
 use second::execution::{Fill, FillList, Mode, Start, Turn, Watch};
 use second::form::form;
 use second::gen::{gen, PROFILES};
 use second::market::Derived;
 use second::message::Request;
-use second::print::run_tape;
-use second::strategy::{Leg, Side};
+use second::print::{contra_number, run_tape};
+use second::strategy::{Cents, Leg, Side};
 use second::tape::{Field, Header, Kind, Tape, KINDS};
-use std::collections::BTreeMap;
-use std::ops::Range;
+use second::Refusal;
+use std::collections::{BTreeMap, HashMap, HashSet};
+use std::ops::{Range, RangeInclusive};
 
 const SEEDS: u64 = 80;
 
@@ -29,6 +31,7 @@ fn count(tape: &[u8], counts: &mut BTreeMap<String, u64>) {
                 Cause::Time => "ended by time".into(),
                 Cause::Order => "ended by order".into(),
                 Cause::Legs => "ended by legs".into(),
+                Cause::Cancel => "ended by cancel".into(),
             }),
             Outcome::Refused { number } => add(format!("refused {number:02}")),
         }
@@ -51,8 +54,10 @@ fn every_refusal_outcome_cause_and_rank_occurs() {
         }
     }
     println!("{counts:#?}");
+    // "Number 51 then never occurs."
+    assert_eq!(counts.get("refused 51"), None);
     let refusals = [
-        1, 2, 3, 4, 5, 6, 7, 11, 12, 13, 20, 21, 22, 30, 31, 32, 33, 40, 41, 42, 43, 50, 51, 60, 61,
+        1, 2, 3, 4, 5, 6, 7, 11, 12, 13, 20, 21, 22, 30, 31, 32, 33, 40, 41, 42, 43, 50, 60, 61, 71,
     ];
     let refusals = refusals.map(|number| format!("refused {number:02}"));
     let others = [
@@ -64,6 +69,7 @@ fn every_refusal_outcome_cause_and_rank_occurs() {
         "ended by time",
         "ended by order",
         "ended by legs",
+        "ended by cancel",
         "rank L",
         "rank C",
         "rank N",
@@ -90,6 +96,7 @@ fn profiles_stress_what_they_say() {
         ("deadline", "refused 13"),
         ("endings", "ended by order"),
         ("endings", "ended by legs"),
+        ("endings", "ended by cancel"),
         ("filter", "refused 33"),
         ("fullbook", "refused 32"),
         ("fullresp", "refused 43"),
@@ -103,9 +110,15 @@ fn profiles_stress_what_they_say() {
         ("overlap", "refused 60"),
         ("prorata", "rank N"),
         ("queue", "joined"),
-        ("queue", "refused 51"),
         ("ratios", "refused 05"),
         ("ratios", "ran"),
+        ("reduce", "ended by time"),
+        ("reduce", "ended by order"),
+        ("reduce", "ended by legs"),
+        ("reduce", "ended by cancel"),
+        ("reduce", "refused 13"),
+        ("reduce", "refused 50"),
+        ("reduce", "refused 71"),
         ("size", "refused 60"),
         ("times", "refused 11"),
         ("truncate", "refused 60"),
@@ -140,13 +153,15 @@ fn the_wrong_profile_has_every_number_of_a_message() {
         count(&gen("wrong", seed).unwrap(), &mut counts);
     }
     for number in [
-        11, 12, 13, 20, 21, 22, 30, 31, 32, 33, 40, 41, 42, 43, 50, 51,
+        11, 12, 13, 20, 21, 22, 30, 31, 32, 33, 40, 41, 42, 43, 50, 71,
     ] {
         let what = format!("refused {number:02}");
         let times = counts.get(&what).copied().unwrap_or(0);
         assert!(times >= 5, "{what} occurs {times} times");
     }
 }
+
+// M-103.
 
 /// A queue order's turn, where the legs have a derived price.
 struct LegTurn {
@@ -289,6 +304,373 @@ fn the_legsize_profile_has_every_way_to_the_ranks() {
     }
 }
 
+// M-105.
+
+/// Collects the ranks of a message's fills, with what turn they are of.
+#[derive(Default)]
+struct RanksOfTurns {
+    turn: &'static str,
+    found: Vec<String>,
+}
+
+impl Watch for RanksOfTurns {
+    fn turn_begins(&mut self, turn: &Turn) {
+        self.turn = match turn.mode {
+            Mode::Queue { .. } => "from the queue",
+            Mode::GoingLive => "going live",
+            Mode::LegsPass => "in the legs' pass",
+        };
+    }
+
+    fn turn_ends(&mut self, records: &[Fill]) {
+        let ranks = records.iter().map(|fill| fill.rank.letter());
+        let turn = self.turn;
+        self.found
+            .extend(ranks.map(|rank| format!("{rank} {turn}")));
+    }
+}
+
+/// What a tape's messages have said so far.
+#[derive(Default)]
+struct Told {
+    /// The units that each order came with.
+    units: HashMap<u32, u32>,
+    reduced: HashSet<u32>,
+    /// Of the pending auction: the first initiator's limit, and how many queue orders were
+    /// cancelled, initiators among them.
+    first_limit: Cents,
+    cancelled: u64,
+    initiators: u64,
+}
+
+/// An accepted or refused message, with the states before and after it.
+struct Step<'a> {
+    before: &'a Engine,
+    request: &'a Request,
+    outcome: &'a Outcome,
+    after: &'a Engine,
+    fills: &'a [Fill],
+    ranks: &'a [String],
+}
+
+impl Step<'_> {
+    fn open(&self, id: u32) -> Option<&Entry> {
+        let mut entries = self.before.book().entries().iter();
+        entries.find(|entry| entry.id == id)
+    }
+
+    fn is_initiator(&self, id: u32) -> bool {
+        let auction = self.before.auction();
+        auction.is_some_and(|auction| auction.initiator == id)
+    }
+
+    /// An open order by where it stands.
+    fn words_of(&self, order: &Entry) -> &'static str {
+        let pending = self.before.auction().is_some();
+        match order.standing {
+            Standing::Queue if self.is_initiator(order.id) => "initiator",
+            Standing::Queue => "queue order behind the initiator",
+            Standing::Held => "held order",
+            Standing::Live if pending => "live order in an auction",
+            Standing::Live => "live order outside an auction",
+            Standing::Response => "response",
+        }
+    }
+
+    /// Who becomes the initiator.
+    fn next_initiator(&self, mut add: impl FnMut(bool, &str)) {
+        let (Some(was), Some(auction)) = (self.before.auction(), self.after.auction()) else {
+            return;
+        };
+        let entries = self.after.book().entries();
+        let next = entries.iter().find(|e| e.id == auction.initiator).unwrap();
+        let mut queue = entries.iter().filter(|e| e.standing == Standing::Queue);
+        let mut held = entries.iter().filter(|e| e.standing == Standing::Held);
+        let worse = was.limit != auction.limit;
+        add(worse, "next initiator of a worse limit");
+        add(!worse, "next initiator of the same limit");
+        let better = |limit: Cents| auction.side.better(limit, next.limit);
+        let earlier = queue.clone().any(|e| e.arrival < next.arrival);
+        add(earlier, "next initiator not the earliest");
+        let tie = queue.any(|e| e.id != next.id && e.limit == next.limit);
+        add(tie, "next initiator the earlier of two");
+        let ignored = held.any(|e| e.side == auction.side && better(e.limit));
+        add(ignored, "next initiator behind a held order");
+        let own = own_side(self.after, auction.side);
+        add(
+            own.is_some_and(better),
+            "next initiator behind its own side",
+        );
+    }
+
+    /// Why a cancel or a reduce was turned back.
+    fn turned_back(&self, number: Refusal) -> Option<String> {
+        let (word, id, participant) = match *self.request {
+            Request::Cancel { id, participant } => ("cancel", id, participant),
+            Request::Reduce {
+                id, participant, ..
+            } => ("reduce", id, participant),
+            _ => return None,
+        };
+        let why = match (number, self.request, self.open(id)) {
+            (13, _, _) => "at the deadline",
+            (50, _, None) => "of nothing open",
+            (50, _, Some(entry)) if !entry.is_order() => "of a response",
+            (50, _, Some(entry)) if entry.participant != participant => "of another's order",
+            (71, Request::Reduce { units, .. }, Some(order)) => match *units {
+                0 => "to 0",
+                units if units == order.units => "to the open units",
+                units if units <= *Entry::UNITS.end() => "to more",
+                _ => "to more than 999,999",
+            },
+            _ => return None,
+        };
+        Some(format!("{number}: {word} {why}"))
+    }
+}
+
+/// The derived price on the own side of an order.
+fn own_side(engine: &Engine, side: Side) -> Option<Cents> {
+    let own = engine
+        .market()
+        .derived_contra(engine.strategy(), side.opposite());
+    own.map(|own| own.price)
+}
+
+impl Told {
+    /// Takes a message, and adds what it shows.
+    fn take(&mut self, step: &Step, mut add: impl FnMut(bool, &str)) {
+        if let Outcome::Refused { number } = step.outcome {
+            let why = step.turned_back(*number);
+            add(why.is_some(), why.as_deref().unwrap_or_default());
+            return;
+        }
+        self.traded(step, &mut add);
+        match *step.request {
+            Request::Order { terms, .. } => {
+                self.units.insert(terms.id, terms.units);
+                self.reduced.remove(&terms.id);
+            }
+            Request::Cancel { id, .. } => self.cancel(step, id, &mut add),
+            Request::Reduce { id, units, .. } => self.reduce(step, id, units, &mut add),
+            _ => {}
+        }
+        match step.outcome {
+            Outcome::Begun { .. } => {
+                let auction = step.after.auction().unwrap();
+                self.first_limit = auction.limit;
+                (self.cancelled, self.initiators) = (0, 0);
+            }
+            Outcome::Joined { .. } => add(self.initiators > 0, "joined behind a next initiator"),
+            Outcome::Ended { cause, .. } => self.ended(step, *cause, &mut add),
+            _ => {}
+        }
+    }
+
+    fn cancel(&mut self, step: &Step, id: u32, add: &mut impl FnMut(bool, &str)) {
+        let order = step.open(id).unwrap();
+        add(true, &format!("{} cancelled", step.words_of(order)));
+        if step.is_initiator(id) {
+            add(self.initiators > 0, "next initiator cancelled too");
+            step.next_initiator(&mut *add);
+            self.initiators += 1;
+        }
+        self.cancelled += u64::from(order.standing == Standing::Queue);
+    }
+
+    fn reduce(&mut self, step: &Step, id: u32, units: u32, add: &mut impl FnMut(bool, &str)) {
+        let order = step.open(id).unwrap();
+        add(true, &format!("{} reduced", step.words_of(order)));
+        let minimum = step.before.strategy().settings.minimum;
+        let below = order.standing == Standing::Queue && units < minimum;
+        add(below, "queue order reduced below the minimum");
+        let again = !self.reduced.insert(id);
+        add(again, "order reduced again");
+        let filled = !again && order.units < self.units[&id];
+        add(filled, "partly filled order reduced");
+    }
+
+    /// Reduced orders that trade, and what trades after a cancel.
+    fn traded(&self, step: &Step, add: &mut impl FnMut(bool, &str)) {
+        for fill in step.fills {
+            let by_queue = step
+                .open(fill.order)
+                .is_some_and(|order| order.standing == Standing::Queue);
+            let reduced = self.reduced.contains(&fill.order);
+            add(by_queue && reduced, "reduced queue order traded");
+            let contra = contra_number(fill.contra);
+            add(self.reduced.contains(&contra), "reduced contra traded");
+        }
+    }
+
+    fn ended(&self, step: &Step, cause: Cause, add: &mut impl FnMut(bool, &str)) {
+        let auction = step.before.auction().unwrap();
+        let next = self.initiators > 0;
+        let no_better = |limit: Cents| next && !auction.side.better(limit, self.first_limit);
+        for ranks in step.ranks {
+            add(cause == Cause::Cancel, &format!("cancel: {ranks}"));
+            add(cause != Cause::Cancel && next, &format!("next: {ranks}"));
+        }
+        match (cause, step.request) {
+            (Cause::Order, Request::Order { terms, .. }) => {
+                let what = "ended by an order no better than the first initiator";
+                add(no_better(terms.price), what);
+            }
+            (Cause::Legs, _) => {
+                let own = own_side(step.after, auction.side).is_some_and(no_better);
+                add(own, "ended by legs no better than the first initiator");
+            }
+            (Cause::Cancel, _) => {
+                let book = step.before.book();
+                let mut held = book.orders().filter(|o| o.standing == Standing::Held);
+                add(book.responses().count() > 0, "cancel: responses expire");
+                add(held.next().is_some(), "cancel: held orders go live");
+                add(step.fills.is_empty(), "cancel: no fills");
+                add(self.cancelled > 1, "cancel: of the last of several");
+            }
+            _ => {}
+        }
+    }
+}
+
+/// Adds what a tape shows of cancels and reduces.
+fn count_changes(bytes: &[u8], counts: &mut BTreeMap<String, u64>) {
+    let tape = Tape::read(bytes).expect("no refusal");
+    let legs: Vec<Leg> = tape.legs().collect();
+    let mut engine = Engine::open(&legs, &tape.header.settings).expect("no refusal");
+    let mut fills = vec![Fill::BLANK; FillList::LEAST_PLACES];
+    let mut told = Told::default();
+    for message in tape.messages() {
+        let before = engine.clone();
+        let mut ranks = RanksOfTurns::default();
+        let outcome = engine.apply_watched(&message, &mut fills, &mut ranks);
+        let step = Step {
+            before: &before,
+            request: &message.request,
+            outcome: &outcome,
+            after: &engine,
+            fills: &fills[..outcome.fill_count()],
+            ranks: &ranks.found,
+        };
+        told.take(&step, |condition, what| {
+            if condition {
+                *counts.entry(what.to_string()).or_default() += 1;
+            }
+        });
+    }
+}
+
+/// Each of these occurs on the tapes of a profile of some seeds.
+fn occur(profile: &str, seeds: RangeInclusive<u64>, wanted: &[&str]) {
+    let mut counts = BTreeMap::new();
+    for seed in seeds {
+        count_changes(&gen(profile, seed).unwrap(), &mut counts);
+    }
+    println!("{profile} {counts:#?}");
+    for what in wanted {
+        let times = counts.get(*what).copied().unwrap_or(0);
+        assert!(times >= 5, "{profile}: {what} occurs {times} times");
+    }
+}
+
+/// Twelve tapes are enough for it.
+#[test]
+fn the_reduce_profile_has_every_cancel_and_reduce() {
+    let wanted = [
+        "initiator cancelled",
+        "queue order behind the initiator cancelled",
+        "held order cancelled",
+        "live order in an auction cancelled",
+        "live order outside an auction cancelled",
+        "next initiator of a worse limit",
+        "next initiator of the same limit",
+        "next initiator not the earliest",
+        "next initiator the earlier of two",
+        "next initiator behind a held order",
+        "next initiator behind its own side",
+        "next initiator cancelled too",
+        "joined behind a next initiator",
+        "ended by an order no better than the first initiator",
+        "ended by legs no better than the first initiator",
+        "next: L from the queue",
+        "next: C from the queue",
+        "next: N from the queue",
+        "next: T from the queue",
+        "cancel: responses expire",
+        "cancel: held orders go live",
+        "cancel: no fills",
+        "cancel: of the last of several",
+        "cancel: L going live",
+        "cancel: R going live",
+        "cancel: L in the legs' pass",
+        "initiator reduced",
+        "queue order behind the initiator reduced",
+        "held order reduced",
+        "live order in an auction reduced",
+        "live order outside an auction reduced",
+        "queue order reduced below the minimum",
+        "order reduced again",
+        "partly filled order reduced",
+        "reduced queue order traded",
+        "reduced contra traded",
+        "71: reduce to 0",
+        "71: reduce to the open units",
+        "71: reduce to more",
+        "71: reduce to more than 999,999",
+        "50: reduce of a response",
+        "50: reduce of nothing open",
+        "50: reduce of another's order",
+        "50: cancel of a response",
+        "50: cancel of nothing open",
+        "50: cancel of another's order",
+        "13: reduce at the deadline",
+        "13: cancel at the deadline",
+    ];
+    occur("reduce", 1..=12, &wanted);
+}
+
+/// Other profiles have some of it among what they are made for.
+#[test]
+fn other_profiles_cancel_and_reduce_queue_orders_too() {
+    let usual = [
+        "initiator cancelled",
+        "initiator reduced",
+        "live order outside an auction reduced",
+        "cancel: no fills",
+    ];
+    for profile in ["mix", "bignum", "noise", "times"] {
+        occur(profile, 1..=SEEDS, &usual);
+    }
+    let wrong = [
+        "71: reduce to 0",
+        "71: reduce to the open units",
+        "71: reduce to more",
+        "71: reduce to more than 999,999",
+        "50: reduce of a response",
+        "50: reduce of nothing open",
+        "50: reduce of another's order",
+        "13: reduce at the deadline",
+        "13: cancel at the deadline",
+    ];
+    occur("wrong", 1..=SEEDS, &wrong);
+    let queue = [
+        "initiator cancelled",
+        "queue order behind the initiator cancelled",
+        "queue order behind the initiator reduced",
+        "next initiator of a worse limit",
+        "next: C from the queue",
+        "reduced queue order traded",
+    ];
+    occur("queue", 1..=SEEDS, &queue);
+    let deadline = ["13: reduce at the deadline", "13: cancel at the deadline"];
+    occur("deadline", 1..=SEEDS, &deadline);
+    occur("long", 1..=4, &usual);
+    let layout = ["live order outside an auction reduced"];
+    occur("layout", 1..=SEEDS, &layout);
+}
+
+// M-100.
+
 /// Adds how a tape that is not refused is spelled.
 fn count_spellings(bytes: &[u8], tape: &Tape, mut add: impl FnMut(String)) {
     let mut add_if = |condition: bool, what: &str| {
@@ -396,8 +778,8 @@ fn the_spelling_profile_has_every_spelling() {
         places.map(|places| format!("{} with noise at {}", kind.word, places.start))
     });
     let noise: Vec<String> = noise.collect();
-    // Of nine fields besides the time the kinds use 5, 3, 7, 6, 5, 2 and none.
-    assert_eq!(noise.len(), 4 + 6 + 2 + 3 + 4 + 7 + 9);
+    // Of nine fields besides the time the kinds use 5, 3, 7, 6, 5, 2, none and 3.
+    assert_eq!(noise.len(), 4 + 6 + 2 + 3 + 4 + 7 + 9 + 6);
     for what in others.map(String::from).iter().chain(&noise) {
         let times = counts.get(what).copied().unwrap_or(0);
         assert!(times >= 5, "{what} occurs {times} times");

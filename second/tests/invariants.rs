@@ -1,7 +1,7 @@
 //! What holds after every message of any tape.
 
 use second::book::{Book, Entry, Standing};
-use second::engine::{Engine, Outcome};
+use second::engine::{Auction, Cause, Engine, Outcome};
 use second::execution::{Contra, Fill, FillList, Mode, Turn, Watch};
 use second::gen::{gen, PROFILES};
 use second::market::{LocalSide, Quote};
@@ -17,6 +17,7 @@ struct Look {
     order: Option<Entry>,
     in_queue: bool,
     turns: u64,
+    queue_turns: u64,
 }
 
 impl Watch for Look {
@@ -24,6 +25,7 @@ impl Watch for Look {
         self.turns += 1;
         self.order = Some(*turn.order());
         self.in_queue = matches!(turn.mode, Mode::Queue { .. });
+        self.queue_turns += u64::from(self.in_queue);
     }
 
     fn turn_ends(&mut self, records: &[Fill]) {
@@ -62,7 +64,7 @@ fn open_units(engine: &Engine) -> HashMap<u32, u32> {
 }
 
 /// Units are conserved: what an entry had, with what the message brought, is what it has, what it
-/// traded, and what was cancelled or expired.
+/// traded, and what was cancelled, reduced or expired.
 fn check_units(
     before: &Engine,
     request: &Request,
@@ -79,6 +81,9 @@ fn check_units(
         }
         Request::Cancel { id, .. } => {
             had.remove(id);
+        }
+        Request::Reduce { id, units, .. } => {
+            had.insert(*id, *units);
         }
         _ => {}
     }
@@ -149,10 +154,16 @@ fn check_state(engine: &Engine) {
     let standing = |wanted: Standing| entries.iter().filter(move |e| e.standing == wanted);
     match engine.auction() {
         Some(auction) => {
-            assert!(standing(Standing::Queue).count() > 0);
             assert!(standing(Standing::Queue).all(|e| e.side == auction.side));
-            // The initiator's limit is the best of the queue.
-            assert!(standing(Standing::Queue).all(|e| !e.side.better(e.limit, auction.limit)));
+            // The initiator is the first of the queue by price, then arrival.
+            let initiator = standing(Standing::Queue).find(|e| e.id == auction.initiator);
+            let initiator = initiator.expect("it is in the queue");
+            assert_eq!(initiator.limit, auction.limit);
+            for other in standing(Standing::Queue).filter(|e| e.id != auction.initiator) {
+                let better = auction.side.better(initiator.limit, other.limit);
+                let equal = initiator.limit == other.limit;
+                assert!(better || equal && initiator.arrival < other.arrival);
+            }
             // The starting price now shows at least the least units it has shown.
             if let Some(start) = auction.start {
                 let legs = engine
@@ -213,6 +224,15 @@ fn every_message_of_every_profile() {
                 check_legs(&before, &message.request, &engine, records);
                 check_state(&engine);
                 check_outcome(&before, &message.request, &engine, &outcome);
+                match message.request {
+                    Request::Cancel { id, .. } => check_cancel(&before, id, &engine, &outcome),
+                    Request::Reduce { id, .. } => check_reduce(&before, id, &engine, &outcome),
+                    _ => {}
+                }
+                // Queue orders execute at every end but that by a cancel.
+                let executes =
+                    matches!(outcome, Outcome::Ended { cause, .. } if cause != Cause::Cancel);
+                assert_eq!(look.queue_turns > 0, executes);
             }
         }
     }
@@ -246,8 +266,55 @@ fn check_outcome(before: &Engine, request: &Request, after: &Engine, outcome: &O
                 .filter(|o| o.standing == Standing::Queue);
             assert_eq!(queue.map(|o| o.units).sum::<u32>(), *queue_units);
         }
-        Outcome::Ended { .. } => assert_eq!(pending, (true, false)),
+        Outcome::Ended { cause, .. } => {
+            assert_eq!(pending, (true, false));
+            let by = match request {
+                Request::Clock => Cause::Time,
+                Request::Order { .. } => Cause::Order,
+                Request::Local { .. } => Cause::Legs,
+                Request::Cancel { .. } => Cause::Cancel,
+                _ => panic!("{request:?} ends no auction"),
+            };
+            assert_eq!(*cause, by);
+        }
         Outcome::Refused { .. } => {}
+    }
+}
+
+/// A cancelled order is gone. "If the initiator is cancelled, the next queue order by price, then
+/// arrival, becomes the initiator with the same deadline and starting leg price. If none is left,
+/// the auction ends." That the next one is the right one holds of every state.
+fn check_cancel(before: &Engine, id: u32, after: &Engine, outcome: &Outcome) {
+    if let Outcome::Ended { .. } = outcome {
+        let mut orders = before.book().orders();
+        assert!(orders.all(|o| (o.standing == Standing::Queue) == (o.id == id)));
+        assert_eq!(after.book().responses().count(), 0);
+        return;
+    }
+    assert_eq!(*outcome, Outcome::Noted { fills: 0 });
+    let mut entries = before.book().entries().to_vec();
+    entries.retain(|e| e.id != id);
+    assert_eq!(entries, after.book().entries());
+    let auction = before.auction().map(|auction| match after.auction() {
+        Some(next) if auction.initiator == id => Auction {
+            initiator: next.initiator,
+            limit: next.limit,
+            ..*auction
+        },
+        _ => *auction,
+    });
+    assert_eq!(auction.as_ref(), after.auction());
+}
+
+/// A reduce changes the open units of one order, and nothing else.
+fn check_reduce(before: &Engine, id: u32, after: &Engine, outcome: &Outcome) {
+    assert_eq!(*outcome, Outcome::Noted { fills: 0 });
+    assert_eq!(before.auction(), after.auction());
+    let entries = before.book().entries().iter().zip(after.book().entries());
+    for (was, is) in entries {
+        let units = if was.id == id { is.units } else { was.units };
+        assert_eq!(Entry { units, ..*was }, *is);
+        assert!(was.id != id || is.is_order() && is.units < was.units);
     }
 }
 

@@ -21,21 +21,6 @@ use std::collections::{HashMap, HashSet};
 
 // Each sentence. The market shows 10 units: the derived ask is 130, the derived bid 95.
 
-/// The records of the last message, each as order, rank, price and units.
-fn last_records(session: &Session, messages: &[Record]) -> String {
-    let mut text = String::new();
-    let run = run_tape(&session.tape(messages), |_, outcome, fills| {
-        assert!(!matches!(outcome, Outcome::Refused { .. }));
-        let words = fills.iter().map(|fill| {
-            let (order, rank, price) = (fill.order, fill.rank.letter(), fill.price);
-            format!("{order} {rank} {price} {}", fill.units)
-        });
-        text = words.collect::<Vec<String>>().join(", ");
-    });
-    assert!(run.is_ok());
-    text
-}
-
 /// A buyer of 30 at 135 begins at the derived ask of 130, the messages come, then 3 of a customer
 /// and 2 of another at 130, and the deadline.
 fn auction(messages: &[Record]) -> Vec<Record> {
@@ -548,6 +533,7 @@ impl Checker {
         match &message.request {
             Request::Local { leg, quote } => self.quotes[usize::from(*leg)] = *quote,
             Request::Order { terms, .. } => self.place(terms.id, terms.side, outcome),
+            Request::Cancel { id, .. } => self.pull(*id),
             _ => {}
         }
         self.read();
@@ -579,6 +565,13 @@ impl Checker {
                 auction.queue.insert(id);
             }
             _ => {}
+        }
+    }
+
+    /// A cancelled order is in no queue.
+    fn pull(&mut self, id: u32) {
+        if let Some(auction) = &mut self.auction {
+            auction.queue.remove(&id);
         }
     }
 
@@ -820,6 +813,27 @@ fn wrong_ranks_at_the_starting_price_are_refused() {
     // Order 5 is not in the queue.
     assert_eq!(says(&[fill(5, t, 130, 1)]), Err(Fault::Early));
     assert_eq!(says(&[fill(5, Rank::R, 130, 1)]), Err(Fault::Front));
+}
+
+/// A cancelled order is in no queue: with its id given again, order 2 is held, and its legs are L.
+#[test]
+fn a_cancelled_order_has_left_the_queue() {
+    let again = || {
+        let mut checker = before_the_end(&[], &ask_shows(16));
+        let placed = Outcome::Placed {
+            units: 30,
+            fills: 0,
+        };
+        for (record, outcome) in [(cancel(2), NOTED), (buy(2, 30, 134), placed)] {
+            let message = record.message().expect("a kind");
+            assert_eq!(checker.take(&message, &outcome, &[]), Ok(()));
+        }
+        checker
+    };
+    assert_eq!(judge(again(), &[fill(2, Rank::L, 130, 16)]), Ok(()));
+    let late = [fill(2, Rank::L, 130, 10), fill(2, Rank::T, 130, 6)];
+    assert_eq!(judge(again(), &late), Err(Fault::Early));
+    assert_eq!(judge(before_the_end(&[], &ask_shows(16)), &late), Ok(()));
 }
 
 #[test]

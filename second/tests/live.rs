@@ -28,7 +28,7 @@ fn every_outcome() -> (Vec<Record>, Vec<&'static str>) {
         (local(0, 220, 10, 240, 10), "noted 0"),
         (no_kind(0), "refused 61"),
         (local(1, 110, 10, 125, 10), "noted 0"),
-        (no_kind(8), "refused 61"),
+        (no_kind(9), "refused 61"),
         (national(0, 220, 240), "noted 0"),
         (buy(1, 2, 90), "placed 2 0"),
         (buy(2, 5, 130).wish().at(1_000), "begun 1500"),
@@ -58,6 +58,15 @@ fn every_outcome() -> (Vec<Record>, Vec<&'static str>) {
             "placed 0 3\n16 11 L 0 175 4\n16 11 R 7 128 1\n16 11 R 6 126 1\naverage 11 159 0",
         ),
         (cancel(1).at(1_800), "noted 0"),
+        (buy(12, 4, 190).wish().at(1_900), "begun 2400"),
+        (reduce(12, 3).at(1_900), "noted 0"),
+        (reduce(12, 3).at(1_900), "refused 71"),
+        (sell(13, 2, 125).at(1_900), "placed 2 0"),
+        (sell(14, 1, 150).response().at(1_900), "noted 0"),
+        (
+            cancel(12).at(1_900),
+            "ended cancel 1\n22 13 R 5 125 2\naverage 13 125 0",
+        ),
     ];
     told.into_iter().unzip()
 }

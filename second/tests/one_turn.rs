@@ -155,6 +155,15 @@ fn small_session(random: &mut Random, judge: &mut Judge) {
             }
             2..=3 if engine.auction().is_some() => Request::Response { terms, account },
             4 => Request::Clock,
+            5 if random.once_in(4) => Request::Cancel {
+                id: random.up_to(id),
+                participant: 1,
+            },
+            5 if random.once_in(2) => Request::Reduce {
+                id: random.up_to(id),
+                participant: 1,
+                units: random.up_to(3),
+            },
             _ => Request::Order {
                 terms,
                 account,

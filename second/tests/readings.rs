@@ -15,23 +15,6 @@ fn set_header(tape: &mut [u8], place: usize, number: u16) {
     tape[place..place + 2].copy_from_slice(&number.to_le_bytes());
 }
 
-fn placed(units: u32) -> Outcome {
-    Outcome::Placed { units, fills: 0 }
-}
-
-fn noted() -> Outcome {
-    Outcome::Noted { fills: 0 }
-}
-
-fn ended(cause: Cause, fills: usize) -> Outcome {
-    Outcome::Ended { cause, fills }
-}
-
-/// The market, then these messages.
-fn after_market(messages: &[Record]) -> Vec<Record> {
-    all(&[&market(), messages])
-}
-
 // The tape.
 
 /// "A section that is not empty overlapping ...": an empty one may have any offset.
@@ -57,7 +40,7 @@ fn an_empty_section_may_stand_anywhere() {
 #[test]
 fn sixty_then_sixty_one_then_the_opening() {
     let strange = Record {
-        kind: 8,
+        kind: 9,
         ..Record::default()
     };
     // A wrong kind in the last message, after fills.
@@ -154,10 +137,11 @@ fn prices_are_signed_and_all_else_is_not() {
 }
 
 #[test]
-fn kinds_0_and_8_and_9_meet_61() {
-    for kind in [0, 8, 9, 200, 255] {
-        let strange = Record { kind, ..clock(0) };
-        assert_eq!(tapeprint(&spread().tape(&[strange])), "refused 0 61\n");
+fn kinds_0_and_9_and_above_meet_61() {
+    for kind in 0..=255 {
+        let record = Record { kind, ..clock(0) };
+        let of_no_kind = tapeprint(&spread().tape(&[record])) == "refused 0 61\n";
+        assert_eq!(of_no_kind, !(1..=8).contains(&kind), "{kind}");
     }
 }
 
@@ -201,6 +185,11 @@ fn unused_fields_are_ignored() {
         participant: 1,
         ..garbage
     };
+    let reduce = Record {
+        kind: 8,
+        units: 1,
+        ..cancel
+    };
     let national = Record {
         kind: 2,
         wish_or_leg: 0,
@@ -209,7 +198,7 @@ fn unused_fields_are_ignored() {
         ..garbage
     };
     spread().prints(
-        &[buy(1, 1, 1), garbage, national, cancel],
+        &[buy(1, 2, 1), garbage, national, reduce, cancel],
         &["open 0 answers 0"],
     );
 }
@@ -436,6 +425,7 @@ fn the_rows_for_every_message_go_first() {
     let outcomes = spread().outcomes(&after_market(&[
         buy(1, 1, 120).wish().at(10),
         cancel(99).at(510),
+        reduce(99, 0).at(510),
         Record {
             side: b'X',
             ..buy(2, 1, 1)
@@ -446,7 +436,13 @@ fn the_rows_for_every_message_go_first() {
     ]));
     assert_eq!(
         outcomes[3..],
-        [refused(13), refused(11), refused(13), refused(20)]
+        [
+            refused(13),
+            refused(13),
+            refused(11),
+            refused(13),
+            refused(20)
+        ]
     );
 }
 
@@ -1051,15 +1047,18 @@ fn joined_tells_the_units_of_the_whole_queue() {
 }
 
 #[test]
-fn queue_orders_are_not_cancelled() {
+fn queue_orders_are_cancelled_by_their_participant_alone() {
     let outcomes = spread().outcomes(&after_market(&[
         buy(1, 10, 100).wish(),
         buy(2, 5, 99).wish(),
+        cancel(2).of(2),
         cancel(1),
         cancel(2),
-        cancel(2).of(2),
     ]));
-    assert_eq!(outcomes[4..], [refused(51), refused(51), refused(50)]);
+    assert_eq!(
+        outcomes[4..],
+        [refused(50), noted(), ended(Cause::Cancel, 0)]
+    );
 }
 
 #[test]
@@ -1191,8 +1190,16 @@ fn held_and_live_orders_are_cancelled_during_an_auction() {
 
 #[test]
 fn a_response_is_never_withdrawn() {
-    let messages = after_market(&[buy(1, 4, 110).wish(), sell(2, 4, 110).response(), cancel(2)]);
-    assert_eq!(spread().last_outcome(&messages), refused(50));
+    let messages = after_market(&[
+        buy(1, 4, 110).wish(),
+        sell(2, 4, 110).response(),
+        cancel(2),
+        reduce(2, 3),
+    ]);
+    assert_eq!(
+        spread().outcomes(&messages)[4..],
+        [refused(50), refused(50)]
+    );
 }
 
 #[test]

@@ -33,9 +33,9 @@ fn make_of_dump_keeps_the_meaning() {
 }
 
 /// Profiles that write legs at 40, messages straight after, unused fields zero and a wish as 1.
-const PLAIN: [&str; 9] = [
+const PLAIN: [&str; 10] = [
     "auction", "badkind", "badopen", "book", "endings", "filter", "fullbook", "multileg",
-    "negative",
+    "negative", "queue",
 ];
 
 #[test]
@@ -82,11 +82,12 @@ modify id=1 participant=2 side=0xff units=0 price=2147483647 time=18446744073709
 local leg=255 bid=-1 bid-size=0 ask=0 ask-size=4294967295 time=5
 record kind=200 side=B account=7 leg=3 id=4 participant=5 units=6 price=-7 ask=8 ask-size=9 time=10
 record kind=0
+reduce id=0 participant=4294967295 units=4294967295 time=9
 clock time=3
 ";
     let tape = make(text.as_bytes()).unwrap();
     assert_eq!(dump(&tape).unwrap(), text);
-    assert_eq!(tape.len(), 40 + 2 * 24 + 6 * 36);
+    assert_eq!(tape.len(), 40 + 2 * 24 + 7 * 36);
     assert_eq!(tapeprint(&tape), "refused 0 61\n");
 }
 
@@ -131,6 +132,11 @@ fn unreadable_texts_name_the_line() {
     fails(&format!("clock time={}", "9".repeat(80)), "is not a number");
     fails("clock id=1", "`id` is not wanted here, or twice");
     fails("cancel id=1", "`cancel` lacks `participant`");
+    fails("reduce id=1 participant=1", "`reduce` lacks `units`");
+    fails(
+        "cancel id=1 participant=1 units=3",
+        "`units` is not wanted here",
+    );
     fails(
         "order id=1 participant=1 account=1 side=BB units=1 price=1",
         "side: `BB`",

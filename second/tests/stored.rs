@@ -35,7 +35,7 @@ fn stored_tapes_print_as_stored() {
 #[test]
 fn stored_tapes_have_their_stored_forms() {
     let forms = stored("form");
-    assert_eq!(forms.len(), 56);
+    assert_eq!(forms.len(), 124);
     for form in forms {
         let expected = fs::read(&form).unwrap();
         assert_eq!(tapeform(&tape_of(&form)), expected, "{}", form.display());

@@ -5,6 +5,7 @@ mod PlaceLaws
 mod PassLaws
 mod BookLaws
 mod GapLaws
+mod ReduceLaws
 mod QueueLaws
 mod SettleLaws
 mod CloseLaws

@@ -8,9 +8,9 @@ use lib.Dec.{eqb}
 use lib.ListN.{length, take, getD}
 use Rattle.rules.specs.Basics.{pick}
 use Rattle.rules.specs.Filter.{beyond}
-use Rattle.rules.specs.Book.{Entry, Found, nobody, found, sameSide, better, isLive, isQueued}
+use Rattle.rules.specs.Book.{Stage, Entry, Found, nobody, found, any, sameSide, better, isLive, isQueued}
 use Rattle.rules.specs.State.{State}
-use Rattle.types.specs.View.{from}
+use Rattle.types.specs.View.{from, stageOf}
 use Rattle.state.specs.Layout as L
 use Rattle.state.specs.View.{openCount}
 use Rattle.state.specs.Lent.{Lent, Tells}
@@ -40,6 +40,10 @@ isUnbeaten buy price e = isQueued (e .stage) && not (better buy price (e .price)
 abbrev pub frontOf : Found → Front
 frontOf nobody = record { there = false; buy = false; price = 0 }
 frontOf (found e) = record { there = true; buy = e .buy; price = e .price }
+
+-- whether an entry is at the stage of that number, by any test that tells that stage
+abbrev pub AnyAt : Lent → ℕ → Bool → Type 0
+AnyAt words n r = (p : Stage → Bool) → ((i : ℕ) → eqb i n ≡ p (stageOf i)) → Tells words (λ s. r ≡ any (λ e. p (e .stage)) (s .book))
 
 -- no entry before place k is under the id, and the one there is, if it is open
 pub record FirstUnder (id : ℕ) (words : List ℕ) (k : ℕ) : Type 0 where

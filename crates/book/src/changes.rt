@@ -12,7 +12,7 @@ ghost use Prim.Native.Nat.{ℕ, _+_, _-_, _<_, _≤_};
 ghost use lib.Dec.{eqb};
 ghost use lib.ListN.{length, getD, drop};
 ghost use Rattle.rules.specs.Basics.{pick};
-ghost use Rattle.rules.specs.Book.{nobody, found, find, isResponse, without, expired, released, releasedAll};
+ghost use Rattle.rules.specs.Book.{nobody, found, find, isResponse, without, reduced, expired, released, releasedAll};
 ghost use Rattle.rules.specs.State.{withBook};
 ghost use Rattle.rules.specs.Execution.{settled};
 ghost use Rattle.rules.specs.Step.{withNew};
@@ -21,7 +21,7 @@ ghost use Rattle.state.specs.Layout as L;
 ghost use Rattle.state.specs.Layout.{WordsSized, Sized};
 ghost use Rattle.state.specs.View.{entryOf, openCount};
 ghost use Rattle.state.specs.Stores.{Kept, putLongs, putWords};
-ghost use Rattle.state.specs.Lent.{TellsBoth, Becomes};
+ghost use Rattle.state.specs.Lent.{TellsBoth, Becomes, WordsBecome};
 ghost use Rattle.book.specs.Kept.{KeptBy, Shifted, Columns, Closing};
 ghost use Rattle.book.specs.Questions.{FirstUnder};
 
@@ -214,6 +214,18 @@ pub fn remove(longs: &mut [u64], words: &mut [u32], id: u32)
     let k = find(words, id);
     if k < m {
         remove_from(longs, words, id, k);
+    }
+}
+
+// M-105: the entry under an id has so many open units from now on, and "keeps its arrival number".
+pub fn reduce(words: &mut [u32], id: u32, units: u32)
+    requires { ⌜ WordsSized (now words) ⌝ }
+    ensures { λ _. ⌜ WordsBecome words (λ s. withBook s (reduced id units (s .book))) ⌝ }
+{
+    let m = state::open_count(words);
+    let k = find(words, id);
+    if k < m {
+        words[Book::UNITS + k] = units;
     }
 }
 

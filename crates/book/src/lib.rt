@@ -24,10 +24,12 @@ mod ids;
 pub use changes::Sought;
 pub use changes::append;
 pub use changes::close;
+pub use changes::reduce;
 pub use changes::remove;
 pub use changes::settle;
 pub use changes::take_out;
 pub use ids::any_held;
+pub use ids::any_queued;
 pub use ids::held_ids;
 pub use ids::live_ids;
 pub use ids::queue_ids;
@@ -146,7 +148,6 @@ fn entry_at(longs: &[u64], words: &[u32], k: usize) -> Entry
 // What stands under an id and a participant.
 pub struct Standing {
     pub order: bool,
-    pub queued: bool,
     pub response: bool,
 }
 
@@ -159,25 +160,23 @@ fn is_of(a: u32, b: u32, id: u32, participant: u32) -> bool
 
 // What is known so far, with one entry more: its stage, and whether it is of that id and participant.
 fn noted(s: Standing, stage: u32, own: bool) -> Standing
-    ensures { λ r. ⌜ (r .order ≡ (s .order || (not (isResponse (stageOf stage)) && own))) × (r .queued ≡ (s .queued || (isQueued (stageOf stage) && own))) × (r .response ≡ (s .response || (isResponse (stageOf stage) && own))) ⌝ }
+    ensures { λ r. ⌜ (r .order ≡ (s .order || (not (isResponse (stageOf stage)) && own))) × (r .response ≡ (s .response || (isResponse (stageOf stage) && own))) ⌝ }
 {
     let response = is_response(stage);
     Standing {
         order: s.order | (!response & own),
-        queued: s.queued | (is_queued(stage) & own),
         response: s.response | (response & own),
     }
 }
 
-// "no open order of that id and participant", "in the queue", "no response of that id and participant".
+// "no open order of that id and participant", "no response of that id and participant".
 pub fn standing_of(words: &[u32], id: u32, participant: u32) -> Standing
     requires { ⌜ WordsSized (now words) ⌝ }
-    ensures { λ r. ⌜ Tells words (λ s. (r .order ≡ any (λ e. isOrder e && ofParticipant id participant e) (s .book)) × (r .queued ≡ any (λ e. isQueued (e .stage) && ofParticipant id participant e) (s .book)) × (r .response ≡ any (λ e. isResponse (e .stage) && ofParticipant id participant e) (s .book))) ⌝ }
+    ensures { λ r. ⌜ Tells words (λ s. (r .order ≡ any (λ e. isOrder e && ofParticipant id participant e) (s .book)) × (r .response ≡ any (λ e. isResponse (e .stage) && ofParticipant id participant e) (s .book))) ⌝ }
 {
     let m = state::open_count(words);
     let mut s = Standing {
         order: false,
-        queued: false,
         response: false,
     };
     let mut k = 0;

@@ -11,7 +11,7 @@ use lib.ListN.{length, take, drop}
 use Rattle.rules.specs.Basics.{pick, All}
 use Rattle.rules.specs.Turn as U
 use Rattle.rules.specs.Outcome as O
-use Rattle.rules.specs.Messages.{Body, local, national, order, response, modify, cancel, clock, Message}
+use Rattle.rules.specs.Messages.{Body, local, national, order, response, modify, cancel, clock, reduce, Message}
 use Rattle.rules.specs.State.{State, taken}
 use Rattle.rules.specs.Refusals.{leastRoom, refusal}
 use Rattle.rules.specs.Step.{Act, goesOn, begins, joining, ends, takeIn, follow, answered, plain, recordsOf, Answer, watched, acted, accepted, turnedBack, step}
@@ -56,6 +56,7 @@ plain-count (response t) s n = refl
 plain-count (modify c) s n = refl
 plain-count (cancel i p) s n = refl
 plain-count clock s n = refl
+plain-count (reduce i p u) s n = refl
 
 answered-count : (b : Body) (s : State) (a : Act) → fillCount (answered b a (follow s a) .outcome) ≡ length (answered b a (follow s a) .fills)
 unfolding recordsOf

@@ -11,7 +11,7 @@ use Rattle.rules.specs.Basics.{pick}
 use Rattle.rules.specs.Strategy.{mostNumber, mostTime}
 use Rattle.rules.specs.Messages.{Message}
 use Rattle.rules.specs.State.{State, taken}
-use Rattle.rules.specs.Outcome.{byTime, byOrder, byLegs, Refused}
+use Rattle.rules.specs.Outcome.{byTime, byOrder, byLegs, byCancel, Refused}
 use Rattle.rules.specs.Refusals.{leastRoom, refusal}
 use Rattle.rules.specs.Execution.{Reply, still}
 use Rattle.rules.specs.Step as R
@@ -32,12 +32,13 @@ use Rattle.engine.proofs.StepLaws.{passes, no-places}
 -- ---- what it sets off
 
 pub follow-ending : (s : State) (n : ℕ) → 2 < n → ending s ≡ follow s (actOf n)
-follow-ending s n h = rw (ne-eqb n 0 (λ e. omega arith), ne-eqb n 1 (λ e. omega arith), ne-eqb n 2 (λ e. omega arith)) (go (eqb n 3) (eqb n 4))
+follow-ending s n h = rw (ne-eqb n 0 (λ e. omega arith), ne-eqb n 1 (λ e. omega arith), ne-eqb n 2 (λ e. omega arith)) (go (eqb n 3) (eqb n 4) (eqb n 5))
   where
-    go : (a b : Bool) → ending s ≡ follow s (pick a (ends byTime) (pick b (ends byOrder) (ends byLegs)))
-    go true b = refl
-    go false true = refl
-    go false false = refl
+    go : (a b c : Bool) → ending s ≡ follow s (pick a (ends byTime) (pick b (ends byOrder) (pick c (ends byLegs) (ends byCancel))))
+    go true b c = refl
+    go false true c = refl
+    go false false true = refl
+    go false false false = refl
 
 pub follow-still : (s : State) (n : ℕ) → (n ≡ 0 → ⊥) → n ≤ 2 → follow s (actOf n) ≡ still s
 follow-still s zero h q = absurd (h refl)

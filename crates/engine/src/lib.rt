@@ -84,6 +84,7 @@ fn plain(words: &[u32], b: Body, count: u32) -> Outcome
         Body::Modify(t) => Outcome::Noted(count),
         Body::Cancel(t) => Outcome::Noted(count),
         Body::Clock => Outcome::Noted(count),
+        Body::Reduce(t) => Outcome::Noted(count),
     }
 }
 
@@ -98,7 +99,10 @@ fn ended(act: u8, count: u32) -> Outcome
     if act == Act::ENDS_BY_ORDER {
         return Outcome::Ended(Cause::Order, count);
     }
-    Outcome::Ended(Cause::Legs, count)
+    if act == Act::ENDS_BY_LEGS {
+        return Outcome::Ended(Cause::Legs, count);
+    }
+    Outcome::Ended(Cause::Cancel, count)
 }
 
 // The outcome of an accepted message, by what it did, the state after it and its fill count.

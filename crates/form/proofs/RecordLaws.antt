@@ -2,11 +2,11 @@
 use mathlib.Core.Path.{_≡_, refl, sym, ap, ap₂, subst, _∙_}
 use mathlib.Core.Bool.{Bool, true, false}
 use mathlib.Core.List.{List, [], _∷_, _++_}
-use Prim.Native.Nat.{ℕ, zero, suc, _+_, _-_, _*_, _/_, _%_, _<_, min}
+use Prim.Native.Nat.{ℕ, zero, suc, _+_, _-_, _*_, _/_, _%_, _≤_, _<_, min}
 use native.Mathlib.Nat.{add-mul-mod-self-left, mod-eq-of-lt, add-mul-div-left, div-eq-of-lt}
 use native.Mathlib.Omega.{arith}
-use borrow.Author.Tests.{lt-ltb, ne-eqb}
-use lib.Dec.{eqb}
+use borrow.Author.Tests.{lt-ltb, ltb-false, ne-eqb}
+use lib.Dec.{eqb, ltb}
 use lib.IntN.{pos}
 use lib.ListN.{length, getD, drop, List·getD-eq-default}
 use lib.Seq.{getD-drop}
@@ -129,14 +129,14 @@ module _ (p : List ℕ) (b : Bytes p) where
 
 -- ---- a kind's row among the rows
 
--- one above 7 uses nothing but its time
-row-above : (kind : ℕ) → 7 < kind → rowOf kind ≡ rowOf 7
+-- one above 8 uses nothing but its time, as 7
+row-above : (kind : ℕ) → 8 < kind → rowOf kind ≡ rowOf 7
 row-above kind h =
     let e : usesOf kind ≡ usesOf 7 = List·getD-eq-default usesTable (usesOf 7) {n = kind - 1} (omega arith) in
     ap (rowBy kind) e ∙ rw (ne-eqb kind 3 (λ z. omega (arith, z, h)))
 
 abbrev IsThere : ℕ → List ℕ → Type 0
-IsThere at row = drop at (rowsFrom 7 1) ≡ row ++ drop (at + 36) (rowsFrom 7 1)
+IsThere at row = drop at (rowsFrom 8 1) ≡ row ++ drop (at + 36) (rowsFrom 8 1)
 
 row-there : (kind : ℕ) → IsThere (rowAt kind) (rowOf kind)
 row-there zero = refl
@@ -147,19 +147,27 @@ row-there (suc (suc (suc (suc zero)))) = refl
 row-there (suc (suc (suc (suc (suc zero))))) = refl
 row-there (suc (suc (suc (suc (suc (suc zero)))))) = refl
 row-there (suc (suc (suc (suc (suc (suc (suc zero))))))) = refl
-row-there (suc (suc (suc (suc (suc (suc (suc (suc k)))))))) =
-    let kind : ℕ = suc (suc (suc (suc (suc (suc (suc (suc k))))))) in
-    let e : 7 ≡ min kind 7 = omega arith in
-    subst (IsThere (rowAt kind)) (sym (row-above kind (omega arith))) (subst (λ (m : ℕ). IsThere ((m - 1) * 36) (rowOf 7)) e refl)
+row-there (suc (suc (suc (suc (suc (suc (suc (suc zero)))))))) = refl
+row-there (suc (suc (suc (suc (suc (suc (suc (suc (suc k))))))))) =
+    let kind : ℕ = suc (suc (suc (suc (suc (suc (suc (suc (suc k)))))))) in
+    subst (IsThere (rowAt kind)) (sym (row-above kind (omega arith))) (rw (lt-ltb 8 kind (omega arith)) refl)
+
+-- it ends among them
+pub row-within : (kind row : ℕ) → row ≡ rowAt kind → row + 36 ≤ 288
+row-within kind row = go (ltb 8 kind) refl
+  where
+    go : (b : Bool) → ltb 8 kind ≡ b → row ≡ (pick b 7 kind - 1) * 36 → row + 36 ≤ 288
+    go true e h = omega arith
+    go false e h = omega (arith, ltb-false 8 kind e)
 
 -- a record under its kind's row
-pub record-bytes : (t : List ℕ) (at : ℕ) → Bytes t → lessers 36 at t (rowAt (getD t at 0)) (rowsFrom 7 1) ≡ fieldBytes (messageFields (meant (fieldsOf (drop at t))))
+pub record-bytes : (t : List ℕ) (at : ℕ) → Bytes t → lessers 36 at t (rowAt (getD t at 0)) (rowsFrom 8 1) ≡ fieldBytes (messageFields (meant (fieldsOf (drop at t))))
 record-bytes t at b =
     let p : List ℕ = drop at t in
     let kind : ℕ = getD t at 0 in
-    let rest : List ℕ = drop (rowAt kind + 36) (rowsFrom 7 1) in
+    let rest : List ℕ = drop (rowAt kind + 36) (rowsFrom 8 1) in
     let here : getD p 0 0 ≡ kind = getD-drop at t 0 0 ∙ ap (λ (j : ℕ). getD t j 0) (let e : at + 0 ≡ at = omega arith in e) in
     let bytes : (i : ℕ) → getD t (at + i) 0 ≡ getD p i 0 = λ i. sym (getD-drop at t i 0) in
-    let row : (i : ℕ) → getD (rowsFrom 7 1) (rowAt kind + i) 0 ≡ getD (rowBy (getD p 0 0) (usesOf (getD p 0 0)) ++ rest) i 0
-    = λ i. sym (getD-drop (rowAt kind) (rowsFrom 7 1) i 0) ∙ ap (λ (l : List ℕ). getD l i 0) (row-there kind) ∙ ap (λ (k : ℕ). getD (rowOf k ++ rest) i 0) (sym here) in
+    let row : (i : ℕ) → getD (rowsFrom 8 1) (rowAt kind + i) 0 ≡ getD (rowBy (getD p 0 0) (usesOf (getD p 0 0)) ++ rest) i 0
+    = λ i. sym (getD-drop (rowAt kind) (rowsFrom 8 1) i 0) ∙ ap (λ (l : List ℕ). getD l i 0) (row-there kind) ∙ ap (λ (k : ℕ). getD (rowOf k ++ rest) i 0) (sym here) in
     (λ j. upto (λ i. min (bytes i j) (row i j)) 0 36) ∙ by-row p (bytes-drop at t b) (usesOf (getD p 0 0)) rest

@@ -59,12 +59,12 @@ module _ (f : ℕ → ℕ) where
 
 -- ---- rows
 
-pub rows-step : (kind : ℕ) (l m : List ℕ) (at r : ℕ) → kind ≤ 7 → Wrote (rowOf kind) at l r m → sets m r (rowsFrom (8 - (kind + 1)) (kind + 1)) ≡ sets l at (rowsFrom (8 - kind) kind)
-rows-step kind l m at r h w = let e : 8 - kind ≡ suc (8 - (kind + 1)) = omega arith in rw e (behind w (rowsFrom (8 - (kind + 1)) (kind + 1)))
+pub rows-step : (kind : ℕ) (l m : List ℕ) (at r : ℕ) → kind ≤ 8 → Wrote (rowOf kind) at l r m → sets m r (rowsFrom (9 - (kind + 1)) (kind + 1)) ≡ sets l at (rowsFrom (9 - kind) kind)
+rows-step kind l m at r h w = let e : 9 - kind ≡ suc (9 - (kind + 1)) = omega arith in rw e (behind w (rowsFrom (9 - (kind + 1)) (kind + 1)))
 
 -- an array of their size is the rows
-pub rows-whole : (l m : List ℕ) (r : ℕ) → length l ≡ 252 → Wrote (rowsFrom 7 1) 0 l r m → m ≡ rowsFrom 7 1
-rows-whole l m r h w = w .holds ∙ sets-whole (rowsFrom 7 1) l h
+pub rows-whole : (l m : List ℕ) (r : ℕ) → length l ≡ 288 → Wrote (rowsFrom 8 1) 0 l r m → m ≡ rowsFrom 8 1
+rows-whole l m r h w = w .holds ∙ sets-whole (rowsFrom 8 1) l h
 
 -- ---- messages
 

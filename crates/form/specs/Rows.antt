@@ -2,7 +2,7 @@
 use mathlib.Core.Bool.{Bool, true}
 use mathlib.Core.List.{List, [], _∷_, _++_}
 use Prim.Native.Nat.{ℕ, zero, suc, _+_, _-_, _*_, min}
-use lib.Dec.{eqb}
+use lib.Dec.{eqb, ltb}
 use lib.ListN.{getD}
 use Rattle.rules.specs.Basics.{pick}
 use Rattle.rules.specs.Tape.{messageBytes, Uses, usesOf}
@@ -41,9 +41,9 @@ abbrev pub rowsFrom : ℕ → ℕ → List ℕ
 rowsFrom zero kind = []
 rowsFrom (suc n) kind = rowOf kind ++ rowsFrom n (kind + 1)
 
--- where a kind's row starts among those of 1 to 7
+-- where a kind's row starts among those of 1 to 8; one above 8 uses nothing, as 7
 abbrev pub rowAt : ℕ → ℕ
-rowAt kind = (min kind 7 - 1) * messageBytes
+rowAt kind = (pick (ltb 8 kind) 7 kind - 1) * messageBytes
 
 -- n bytes from an offset on, or the most that each may be
 abbrev pub lessers : ℕ → ℕ → List ℕ → ℕ → List ℕ → List ℕ

@@ -13,12 +13,14 @@ use tape::Header;
 use tape::Section;
 use tape::Uses;
 
-// The bytes of a leg and of a message record; those of a row for each kind.
+// The bytes of a leg and of a message record; those of a row for each kind, and of those before a clock's.
 const LEG: usize = Section::LEG as usize;
 
 const RECORD: usize = Section::MESSAGE as usize;
 
 const ROWS: usize = RECORD * Uses::MOST_KIND as usize;
+
+const BEFORE_CLOCK: usize = RECORD * (Fields::CLOCK - 1) as usize;
 
 // ---- bytes, from an offset on; each function gives the offset behind what it wrote
 
@@ -132,8 +134,8 @@ fn put_row(rows: &mut [u8], at: usize, kind: u8) -> usize
 
 // The rows of all kinds.
 fn put_rows(rows: &mut [u8]) -> usize
-    requires { ⌜ 252 ≤ length (now rows) ⌝ }
-    ensures { λ r. ⌜ Writes (rowsFrom 7 1) 252 rows 0 r ⌝ }
+    requires { ⌜ 288 ≤ length (now rows) ⌝ }
+    ensures { λ r. ⌜ Writes (rowsFrom 8 1) 288 rows 0 r ⌝ }
 {
     let mut end = 0;
     let mut kind = Uses::LEAST_KIND;
@@ -144,15 +146,17 @@ fn put_rows(rows: &mut [u8]) -> usize
     end
 }
 
-// Where a kind's row starts. As in the reader's table, a kind above 7 has that of 7, and 0 that of 1.
+// Where a kind's row starts. As for the reader, a kind above 8 has that of 7, which uses nothing, and 0 that of 1.
 fn row_at(kind: u8) -> usize
     ensures { λ r. ⌜ r ≡ rowAt kind ⌝ }
 {
-    let last = number::lesser_byte(kind, Uses::MOST_KIND) as usize;
-    if last == 0 {
+    if Uses::MOST_KIND < kind {
+        return BEFORE_CLOCK;
+    }
+    if kind == 0 {
         return 0;
     }
-    (last - 1) * RECORD
+    (kind - 1) as usize * RECORD
 }
 
 // ---- the messages
@@ -187,7 +191,7 @@ fn put_messages(
     count: usize,
     rows: &[u8],
 ) -> usize
-    requires { ⌜ (at + 36 * count ≤ length (now out)) × (36 * count ≤ length (now tape) - from) × (now rows ≡ rowsFrom 7 1) ⌝ }
+    requires { ⌜ (at + 36 * count ≤ length (now out)) × (36 * count ≤ length (now tape) - from) × (now rows ≡ rowsFrom 8 1) ⌝ }
     ensures { λ r. ⌜ Writes (messagesForm (meantFrom count (drop from (now (tape .entry))))) (36 * count) out at r ⌝ }
 {
     let mut end = at;
@@ -231,7 +235,7 @@ fn form_size(h: Header) -> usize
 
 // The form of a tape that has this header.
 fn put_form(out: &mut [u8], tape: &[u8], h: Header, rows: &[u8]) -> usize
-    requires { ⌜ (sizeIn (headerOf h) ≤ length (now out)) × Holds (headerOf h) (now tape) × (now rows ≡ rowsFrom 7 1) ⌝ }
+    requires { ⌜ (sizeIn (headerOf h) ≤ length (now out)) × Holds (headerOf h) (now tape) × (now rows ≡ rowsFrom 8 1) ⌝ }
     ensures { λ r. ⌜ Writes (formIn (headerOf h) (now (tape .entry))) (sizeIn (headerOf h)) out 0 r ⌝ }
 {
     let legs = legs_size(h);

@@ -5,7 +5,7 @@ use Prim.Native.Nat.{ℕ}
 use lib.Dec.{eqb}
 use denote.Ref.{now}
 use Rattle.rules.specs.Basics.{pick}
-use Rattle.rules.specs.Outcome.{byTime, byOrder, byLegs}
+use Rattle.rules.specs.Outcome.{byTime, byOrder, byLegs, byCancel}
 use Rattle.rules.specs.Book.{Entry, queued, withStage}
 use Rattle.rules.specs.State.{Pending, State, withAuction}
 use Rattle.rules.specs.Auction.{eligible, auctionOf, endsByOrder, joins}
@@ -15,7 +15,7 @@ use Rattle.state.specs.Lent.{Lent}
 
 -- what a message does to the auction
 abbrev pub actOf : ℕ → Act
-actOf n = pick (eqb n 0) goesOn (pick (eqb n 1) begins (pick (eqb n 2) joining (pick (eqb n 3) (ends byTime) (pick (eqb n 4) (ends byOrder) (ends byLegs)))))
+actOf n = pick (eqb n 0) goesOn (pick (eqb n 1) begins (pick (eqb n 2) joining (pick (eqb n 3) (ends byTime) (pick (eqb n 4) (ends byOrder) (pick (eqb n 5) (ends byLegs) (ends byCancel))))))
 
 -- an order with no auction pending
 abbrev pub outside : State → Bool → Entry → Intake

@@ -8,13 +8,13 @@ ghost use lib.ListN.{length};
 ghost use Rattle.rules.specs.Book.{Entry as Open, held, queued, answer, withStage};
 ghost use Rattle.rules.specs.State.{Pending, pending, withAuction, contraPrices};
 ghost use Rattle.rules.specs.Auction.{eligible, auctionOf as beginning, endsByOrder, joins, endsByLegs, unitsAt, looked};
-ghost use Rattle.rules.specs.Messages.{local, national, order, response, modify, cancel, clock};
-ghost use Rattle.rules.specs.Step.{entryOf as newEntry, modifiedEntry, takeIn, watched};
+ghost use Rattle.rules.specs.Messages.{local, national, order, response, modify, cancel, clock, reduce};
+ghost use Rattle.rules.specs.Step.{entryOf as newEntry, modifiedEntry, afterCancel, takeIn, watched};
 ghost use Rattle.types.specs.View.{orderTerms, responseTerms, changeOf, localOf, nationalOf, bodyOf, derivedOf};
 ghost use Rattle.state.specs.Layout.{Sized, LongsSized, WordsSized};
 ghost use Rattle.state.specs.View.{entryOf, clockOf, stateOf};
 ghost use Rattle.state.specs.Lent.{Tells, Becomes};
-ghost use Rattle.intake.specs.Acts.{outside, during, TakesIn};
+ghost use Rattle.intake.specs.Acts.{actOf, outside, during, TakesIn};
 use state::Auction;
 use state::Clock;
 use state::Entry;
@@ -28,6 +28,7 @@ use types::Local;
 use types::Modify;
 use types::National;
 use types::Order;
+use types::Reduce;
 use types::Response;
 
 // What a message does to the auction.
@@ -45,6 +46,8 @@ impl Act {
     pub const ENDS_BY_ORDER: u8 = 4;
 
     pub const ENDS_BY_LEGS: u8 = 5;
+
+    pub const ENDS_BY_CANCEL: u8 = 6;
 }
 
 // ---- eligibility and ends
@@ -294,12 +297,32 @@ fn modify_in(longs: &mut [u64], words: &mut [u32], t: Modify) -> u8
     Act::GOES_ON
 }
 
-// A cancel.
+// M-105: "If none is left, the auction ends".
+fn after_cancel(words: &[u32]) -> u8
+    requires { ⌜ WordsSized (now words) ⌝ }
+    ensures { λ r. ⌜ Tells words (λ s. actOf r ≡ afterCancel s) ⌝ }
+{
+    if state::is_pending(words) & !book::any_queued(words) {
+        return Act::ENDS_BY_CANCEL;
+    }
+    Act::GOES_ON
+}
+
+// A cancel, and what it does to the auction.
 fn cancel_in(longs: &mut [u64], words: &mut [u32], t: Cancel) -> u8
     requires { ⌜ Sized (now longs) (now words) ⌝ }
     ensures { λ r. ⌜ TakesIn longs words r (λ s. takeIn s (cancel (t .id) (t .participant))) ⌝ }
 {
     book::remove(longs, words, t.id);
+    after_cancel(words)
+}
+
+// M-105: a reduce to "the new open units".
+fn reduce_in(longs: &mut [u64], words: &mut [u32], t: Reduce) -> u8
+    requires { ⌜ Sized (now longs) (now words) ⌝ }
+    ensures { λ r. ⌜ TakesIn longs words r (λ s. takeIn s (reduce (t .id) (t .participant) (t .units))) ⌝ }
+{
+    book::reduce(words, t.id, t.units);
     Act::GOES_ON
 }
 
@@ -328,6 +351,7 @@ pub fn take_in(longs: &mut [u64], words: &mut [u32], b: Body) -> u8
         Body::Modify(t) => modify_in(longs, words, t),
         Body::Cancel(t) => cancel_in(longs, words, t),
         Body::Clock => clock_in(longs, words),
+        Body::Reduce(t) => reduce_in(longs, words, t),
     }
 }
 
@@ -368,5 +392,6 @@ pub fn watch(longs: &mut [u64], words: &mut [u32], b: Body)
         Body::Modify(t) => {}
         Body::Cancel(t) => {}
         Body::Clock => {}
+        Body::Reduce(t) => {}
     }
 }

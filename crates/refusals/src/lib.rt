@@ -3,7 +3,7 @@
 ghost use mathlib.Core.Path.{_≡_};
 ghost use Rattle.rules.specs.Basics.{pick, between, firstOf};
 ghost use Rattle.rules.specs.State.{reached};
-ghost use Rattle.rules.specs.Refusals.{isClock, goodFields, crossed, everyRow, localRow, nationalRow, orderRow, responseRow, modifyRow, cancelRow, kindRow, refusal};
+ghost use Rattle.rules.specs.Refusals.{isClock, goodFields, crossed, everyRow, localRow, nationalRow, orderRow, responseRow, modifyRow, cancelRow, reduceRow, kindRow, refusal};
 ghost use Rattle.types.specs.View.{localOf, nationalOf, orderTerms, responseTerms, changeOf, bodyOf, messageOf};
 ghost use Rattle.state.specs.Layout.{Sized, LongsSized, WordsSized};
 ghost use Rattle.state.specs.View.{clockOf};
@@ -20,6 +20,7 @@ use types::Message;
 use types::Modify;
 use types::National;
 use types::Order;
+use types::Reduce;
 use types::Refusal;
 use types::Response;
 
@@ -130,14 +131,26 @@ fn modify_row(words: &[u32], t: Modify) -> u32
     first(!pending, 40, below)
 }
 
-// "50 no open order of that id and participant; 51 in the queue".
+// "50 no open order of that id and participant".
 fn cancel_row(words: &[u32], t: Cancel) -> u32
     requires { ⌜ WordsSized (now words) ⌝ }
     ensures { λ r. ⌜ Tells words (λ s. r ≡ firstOf (cancelRow s (t .id) (t .participant))) ⌝ }
 {
     let known = book::standing_of(words, t.id, t.participant);
-    let below = first(known.queued, 51, 0);
-    first(!known.order, 50, below)
+    first(!known.order, 50, 0)
+}
+
+// M-105: "71, after 50, meets a reduce whose units are 0 or not below the open units".
+fn reduce_row(words: &[u32], t: Reduce) -> u32
+    requires { ⌜ WordsSized (now words) ⌝ }
+    ensures { λ r. ⌜ Tells words (λ s. r ≡ firstOf (reduceRow s (t .id) (t .participant) (t .units))) ⌝ }
+{
+    let known = book::standing_of(words, t.id, t.participant);
+    let missing = !known.order;
+    let units = book::units_of(words, t.id);
+    let wrong = (t.units == 0) | (units <= t.units);
+    let below = first(wrong, 71, 0);
+    first(missing, 50, below)
 }
 
 // The row of the message's kind; a clock has none.
@@ -153,6 +166,7 @@ fn kind_row(words: &[u32], b: Body) -> u32
         Body::Modify(t) => modify_row(words, t),
         Body::Cancel(t) => cancel_row(words, t),
         Body::Clock => 0,
+        Body::Reduce(t) => reduce_row(words, t),
     }
 }
 
@@ -170,6 +184,7 @@ fn is_clock(b: Body) -> bool
         Body::Modify(t) => false,
         Body::Cancel(t) => false,
         Body::Clock => true,
+        Body::Reduce(t) => false,
     }
 }
 

@@ -8,7 +8,7 @@ use borrow.Author.Tests.{eq-eqb, ne-eqb}
 use lib.Dec.{eqb}
 use Rattle.rules.specs.Basics.{pick, All}
 use Rattle.rules.specs.Book.{queued, answer, Entry, withStage, Found, nobody, found, find, without, added}
-use Rattle.rules.specs.Messages.{Terms, Change, Body, local, national, order, response, modify, cancel, clock}
+use Rattle.rules.specs.Messages.{Terms, Change, Body, local, national, order, response, modify, cancel, clock, reduce}
 use Rattle.rules.specs.Refusals.{refusal, orderRow, responseRow}
 use Rattle.rules.specs.State.{Clock, Auction, none, pending, State, taken}
 use Rattle.rules.specs.Auction.{eligible, endsByOrder, joins}
@@ -23,7 +23,7 @@ use Rattle.rules.specs.Reached.{Inv}
 use Rattle.rules.proofs.BasicsLaws.{all-map, all-both, all-append}
 use Rattle.rules.proofs.TestLaws.{pick-both}
 use Rattle.rules.proofs.RowLaws.{NoneOf, none-of}
-use Rattle.rules.proofs.EntryLaws.{all-only, nobody-not, find-id}
+use Rattle.rules.proofs.EntryLaws.{all-only, all-reduced, nobody-not, find-id}
 use Rattle.rules.proofs.StandingLaws.{Numbered}
 use Rattle.rules.proofs.ServeLaws.{Made, made-stands, made-fixed, Kept}
 use Rattle.rules.proofs.ClaimLaws.{told, told-fixed}
@@ -100,6 +100,7 @@ take-numbered s (response t) a m k =
 take-numbered s (modify c) a m k = modify-numbered (s .clock .next - 1) c a (s .book) (find (c .id) (s .book)) refl k
 take-numbered s (cancel i p) a m k = all-only (λ e. a (e .id) ≡ e .arrival) (λ e. not (eqb (e .id) i)) (s .book) k
 take-numbered s clock a m k = k
+take-numbered s (reduce i p n) a m k = all-reduced (λ e. a (e .id) ≡ e .arrival) i n (λ e q. q) (s .book) k
 
 -- ---- an answer
 

@@ -11,7 +11,7 @@ use lib.IntN.{pos}
 use lib.ListN.{length, getD, take, drop, length-append, length-drop}
 use lib.Seq.{take-at, drop-at}
 use Rattle.rules.specs.Basics.{pick, All}
-use Rattle.rules.specs.Messages.{Terms, Body, local, national, order, response, modify, cancel, clock, Message}
+use Rattle.rules.specs.Messages.{Terms, Body, local, national, order, response, modify, cancel, clock, reduce, Message}
 use Rattle.rules.specs.Tape.{Header, headerOf, Fields, fieldsOf, usesOf, usedFields, bodyOf, messageOf, messagesFrom, isKind, knownKinds, legsFrom, Tape, refusedTape, reads, tapeRefusal, tapeOf, strategyOf, messagesOf, isDamaged, hasUnknownKind}
 use Rattle.rules.specs.Spelling.{yesOrNo, fourth, meant, meantFrom, Meaning, meaningOf, formFrom, formOf, Accepted, rawFrom, Plain, OneForm, OneMeaning, OneSpelling, formRefusal, replyTo, bufferAfter, GoodReply, FormsAreWritten}
 use Rattle.rules.proofs.TestLaws.{and-left, and-right, between-high}
@@ -82,6 +82,8 @@ fieldsSaid t (modify x) =
 fieldsSaid t (cancel i p) =
     record { kind = 6; side = 0; account = 0; wishOrLeg = 0; id = i; participant = p; units = 0; price = pos 0; ask = pos 0; askSize = 0; time = t }
 fieldsSaid t clock = blank 7 t
+fieldsSaid t (reduce i p n) =
+    record { kind = 8; side = 0; account = 0; wishOrLeg = 0; id = i; participant = p; units = n; price = pos 0; ask = pos 0; askSize = 0; time = t }
 
 said-kind : (k : ℕ) (f : Fields) → isKind k ≡ true → fieldsSaid (f .time) (bodyOf (usedFields (usesOf k) (withBytes k (f .wishOrLeg) f))) ≡ meant (withBytes k (f .wishOrLeg) f)
 said-kind zero f h = absurd (true≢false (sym h))
@@ -92,7 +94,8 @@ said-kind (suc (suc (suc (suc zero)))) f h = refl
 said-kind (suc (suc (suc (suc (suc zero))))) f h = refl
 said-kind (suc (suc (suc (suc (suc (suc zero)))))) f h = refl
 said-kind (suc (suc (suc (suc (suc (suc (suc zero))))))) f h = refl
-said-kind (suc (suc (suc (suc (suc (suc (suc (suc k)))))))) f h = absurd (omega (arith, between-high 1 (suc (suc (suc (suc (suc (suc (suc (suc k)))))))) 7 h))
+said-kind (suc (suc (suc (suc (suc (suc (suc (suc zero)))))))) f h = refl
+said-kind (suc (suc (suc (suc (suc (suc (suc (suc (suc k))))))))) f h = absurd (omega (arith, between-high 1 (suc (suc (suc (suc (suc (suc (suc (suc (suc k))))))))) 8 h))
 
 fields-said : (p : List ℕ) → isKind (getD p 0 0) ≡ true → meant (fieldsOf p) ≡ fieldsSaid (messageOf p .time) (messageOf p .body)
 fields-said p h = sym (said-kind (getD p 0 0) (fieldsOf p) h)

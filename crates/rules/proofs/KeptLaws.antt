@@ -1,6 +1,6 @@
 -- What is kept of the legs, message by message.
 use mathlib.Core.Path.{_≡_, refl, ap, sym, _∙_, subst}
-use mathlib.Core.Bool.{Bool, true, false, _&&_, true≢false}
+use mathlib.Core.Bool.{Bool, true, false, _&&_, not, true≢false}
 use mathlib.Core.List.{List, [], _∷_, _++_}
 use mathlib.Core.Logic.{inl, inr}
 use Prim.Native.Nat.{ℕ, zero, suc, _+_, _-_, _*_, _≤_, min}
@@ -12,13 +12,13 @@ use lib.ListN.{length}
 use Rattle.rules.specs.Basics.{pick}
 use Rattle.rules.specs.Strategy.{Leg, isB}
 use Rattle.rules.specs.Prices.{mostCents, Quote, used, over, unitsShown, leastFrom, least, Derived, derived, exists}
-use Rattle.rules.specs.Book.{Entry}
-use Rattle.rules.specs.Messages.{National, Terms, Body, local, national, order, response, modify, cancel, clock}
+use Rattle.rules.specs.Book.{isQueued, Entry, any}
+use Rattle.rules.specs.Messages.{National, Terms, Body, local, national, order, response, modify, cancel, clock, reduce}
 use Rattle.rules.specs.Refusals.{refusal}
 use Rattle.rules.specs.State.{Pending, Auction, none, pending, State, taken, isPending, reached, contraPrice, contraPrices}
 use Rattle.rules.specs.Auction.{eligible, auctionOf, existing, endsByOrder, joins, endsByLegs, keeping, unitsAt, seen, looked}
 use Rattle.rules.specs.Execution.{Reply}
-use Rattle.rules.specs.Step.{Act, goesOn, begins, joining, ends, Intake, nationalQuote, changed, localIn, nationalIn, orderIntake, takeIn, quiet, follow, recordsOf, plain, outcomeOf, Answer, watched, acted, accepted, step}
+use Rattle.rules.specs.Step.{Act, goesOn, begins, joining, ends, Intake, nationalQuote, changed, localIn, nationalIn, cancelIn, orderIntake, takeIn, quiet, follow, recordsOf, plain, outcomeOf, Answer, watched, acted, accepted, step}
 use Rattle.rules.specs.Run.{Sent, answerTo, after}
 use Rattle.rules.specs.Reached.{Inv}
 use Rattle.rules.specs.LegsKept.{reading, readings, takenIn, Shows, ShownIn, IsLeast, KeptSince, LegsKeptOfRules}
@@ -115,6 +115,7 @@ plain-reading (response t) s x n rs = refl
 plain-reading (modify c) s x n rs = refl
 plain-reading (cancel i p) s x n rs = refl
 plain-reading clock s x n rs = refl
+plain-reading (reduce i p u) s x n rs = refl
 
 act-reading : (b : Body) (a : Act) (s x : State) (n : ℕ) (rs : List State) → reading (outcomeOf b a s n) x rs ≡ readBy a x rs
 act-reading b goesOn s x n rs = plain-reading b s x n rs
@@ -123,7 +124,7 @@ act-reading b joining s x n rs = refl
 act-reading b (ends c) s x n rs = refl
 
 -- the auction after an intake: begun with the prices that the legs have, or as it was
-abbrev TakenAs : Act → State → Auction → State → Type 0
+abbrev pub TakenAs : Act → State → Auction → State → Type 0
 TakenAs goesOn s a x = a ≡ s .auction
 TakenAs begins s a x = (o : Entry) × (a ≡ auctionOf x o (s .clock .time))
 TakenAs joining s a x = a ≡ s .auction
@@ -136,15 +137,16 @@ order-taken s (pending p) t w =
     pick-both (λ (i : Intake). TakenAs (i .act) s (i .state .auction) (i .state)) (endsByOrder s p (newOrder s t)) refl
     (pick-both (λ (i : Intake). TakenAs (i .act) s (i .state .auction) (i .state)) (joins s p w (newOrder s t)) refl refl)
 
-take-taken : (s : State) (b : Body) → TakenAs (takeIn s b .act) s (takeIn s b .state .auction) (takeIn s b .state)
+pub take-taken : (s : State) (b : Body) → TakenAs (takeIn s b .act) s (takeIn s b .state .auction) (takeIn s b .state)
 unfolding takeIn
 take-taken s (local q) = let r : State = localIn s q in pick-both (λ (a : Act). TakenAs a s (r .auction) r) (endsByLegs r (r .auction)) refl refl
 take-taken s (national q) = refl
 take-taken s (order t w) = order-taken s (s .auction) t w
 take-taken s (response t) = refl
 take-taken s (modify c) = refl
-take-taken s (cancel i p) = refl
+take-taken s (cancel i p) = let r : State = cancelIn s i in pick-both (λ (a : Act). TakenAs a s (r .auction) r) (isPending (r .auction) && not (any (λ e. isQueued (e .stage)) (r .book))) refl refl
 take-taken s clock = pick-both (λ (a : Act). TakenAs a s (s .auction) s) (reached (s .auction) (s .clock .time)) refl refl
+take-taken s (reduce i p n) = refl
 
 watched-taken : (b : Body) (a : Act) (s r : State) → TakenAs a s (r .auction) r → TakenAs a s (r .auction) (watched b r)
 watched-taken b goesOn s r t = t
@@ -222,6 +224,7 @@ take-read s (response t) h = sym h
 take-read s (modify c) h = sym h
 take-read s (cancel i p) h = sym h
 take-read s clock h = sym h
+take-read s (reduce i p n) h = sym h
 
 -- ---- what is kept once it is
 

@@ -9,7 +9,7 @@ use lib.IntN.{ℤ}
 use lib.Signed.{_<ℤ_}
 use Rattle.rules.specs.Basics.{pick, Pairwise}
 use Rattle.rules.specs.Strategy.{Strategy}
-use Rattle.rules.specs.Messages.{Body, local, national, order, response, modify, cancel, clock}
+use Rattle.rules.specs.Messages.{Body, local, national, order, response, modify, cancel, clock, reduce}
 use Rattle.rules.specs.State.{State}
 use Rattle.rules.specs.Refusals.{refusal}
 use Rattle.rules.specs.Turn.{Contra, legs, entry, Fill}
@@ -37,8 +37,9 @@ gives (response t) i = eqb (t .id) i
 gives (modify c) i = eqb (c .id) i
 gives (cancel j p) i = false
 gives clock i = false
+gives (reduce j p n) i = false
 
--- "Each accepted message takes the next arrival number", and a response that is modified "the new arrival number": by the messages, the number of the last accepted one that gave or modified the entry
+-- "Each accepted message takes the next arrival number", and a response that is modified "the new arrival number": by the messages, the number of the last accepted one that gave or modified the entry; "A reduced order keeps its arrival number" (M-105)
 abbrev pub arrivalsAfter : State → Sent → Arrivals → Arrivals
 arrivalsAfter s m a i = pick (eqb (refusal s (m .message) (m .room)) 0 && gives (m .message .body) i) (s .clock .next) (a i)
 

@@ -8,10 +8,10 @@ use lib.ListN.{set, replicate, take, drop}
 use Rattle.rules.specs.Series.{Symbol}
 use Rattle.rules.specs.Strategy.{Leg, Strategy, openingRefusal}
 use Rattle.rules.specs.Book.{count, isResponse}
-use Rattle.rules.specs.Messages.{Terms, Body, local, national, order, response, modify, cancel, clock, Message}
+use Rattle.rules.specs.Messages.{Terms, Body, local, national, order, response, modify, cancel, clock, reduce, Message}
 use Rattle.rules.specs.Refusals.{isOrder}
 use Rattle.rules.specs.Turn.{Rank, L, C, N, T, R, Contra, legs, entry, sizes, Fill}
-use Rattle.rules.specs.Outcome.{byTime, byOrder, byLegs, Outcome, Noted, Placed, Begun, Joined, Ended, Refused}
+use Rattle.rules.specs.Outcome.{byTime, byOrder, byLegs, byCancel, Outcome, Noted, Placed, Begun, Joined, Ended, Refused}
 use Rattle.rules.specs.Execution.{Turn}
 use Rattle.rules.specs.Step.{Answer}
 use Rattle.rules.specs.Run.{startOf, Sent, answerTo, answers, after}
@@ -165,6 +165,10 @@ changes side id participant units price = sent (modify (record { side = side; id
 -- an order cancelled by a participant
 abbrev pub cancels : ℕ → ℕ → Sent
 cancels id participant = sent (cancel id participant) 0
+
+-- an order reduced by a participant to so many units
+abbrev pub reduces : ℕ → ℕ → ℕ → Sent
+reduces id participant units = sent (reduce id participant units) 0
 
 -- the clock at the deadline of an auction that began at 0
 abbrev pub atDeadline : Sent
@@ -443,8 +447,8 @@ turnedBackRows =
     (outcomes (Refused 10 ∷ Refused 11 ∷ Refused 12 ∷ []))
     -- "11 .. before the last accepted time ..; 13 deadline reached and not a clock": before 20 to 50
     ∷ row 52 (outcomesAfter spread (market ++ (begin 5 (pos 130) ∷ [])) (at 999 (cancels 9 1) ∷ at 1_499 (cancels 9 1)
-    ∷ map (at 1_500) (quote 2 1 1 2 1 ∷ nbbo 2 1 2 ∷ buys 0 (pos 1) ∷ asks 0 20 1 (pos 1) 0 ∷ changes S 20 1 1 (pos 1) ∷ cancels 9 1 ∷ [])))
-    (outcomes (Refused 11 ∷ Refused 50 ∷ replicate 6 (Refused 13)))
+    ∷ map (at 1_500) (quote 2 1 1 2 1 ∷ nbbo 2 1 2 ∷ buys 0 (pos 1) ∷ asks 0 20 1 (pos 1) 0 ∷ changes S 20 1 1 (pos 1) ∷ cancels 9 1 ∷ reduces 9 1 1 ∷ [])))
+    (outcomes (Refused 11 ∷ Refused 50 ∷ replicate 7 (Refused 13)))
     -- "11 time above 10^15 or before the last accepted time (at first the opening's)"; a first number of 10^15 is taken once
     ∷ row 53 (outcomesAfter (classed (spread .legs) 10 4 1 1_000_000_000_000_000 5) []
     (sent clock 4 ∷ sent clock 1_000_000_000_000_001 ∷ sent clock 1_000_000_000_000_000 ∷ sent clock 1_000_000_000_000_000 ∷ []))
@@ -486,9 +490,9 @@ turnedBackRows =
     ∷ row 63 (outcomesAfter spread (beganAgainst 5 5 (pos 130) ++ (asks 1 20 1 (pos 200) 0 ∷ []))
     (changes 67 20 2 1 (pos 200) ∷ changes S 20 2 1 (pos 200) ∷ changes S 1 1 1 (pos 200) ∷ changes S 20 1 1 (pos 200) ∷ []))
     (outcomes (Refused 41 ∷ Refused 42 ∷ Refused 42 ∷ Noted 0 ∷ []))
-    -- "50 no open order of that id and participant; 51 in the queue": a response, another participant twice, the queue, a live order
-    ∷ row 64 (outcomesAfter spread (beganAgainst 5 5 (pos 130) ++ (asks 1 20 1 (pos 200) 0 ∷ [])) (cancels 20 1 ∷ cancels 7 2 ∷ cancels 1 2 ∷ cancels 7 1 ∷ cancels 1 1 ∷ []))
-    (outcomes (Refused 50 ∷ Refused 50 ∷ Refused 50 ∷ Refused 51 ∷ Noted 0 ∷ []))
+    -- "50 no open order of that id and participant": a response, another participant twice, a live order
+    ∷ row 64 (outcomesAfter spread (beganAgainst 5 5 (pos 130) ++ (asks 1 20 1 (pos 200) 0 ∷ [])) (cancels 20 1 ∷ cancels 7 2 ∷ cancels 1 2 ∷ cancels 1 1 ∷ []))
+    (outcomes (Refused 50 ∷ Refused 50 ∷ Refused 50 ∷ Noted 0 ∷ []))
     ∷ []
 
 -- "Tape", and the table's last row
@@ -498,19 +502,19 @@ tapeRows =
     row 65 (tapes (replicate 39 0 ∷ (header 2 39 0 0 ++ packedLegs) ∷ (header 2 41 0 0 ++ packedLegs) ∷ (header 2 40 1 87 ++ packedLegs ++ blank 7) ∷ (header 0 0 1 41 ++ blank 7)
     ∷ header 0 41 0 0 ∷ (header 2 40 1 88 ++ packedLegs ++ blank 7) ∷ (header 2 76 1 40 ++ blank 7 ++ packedLegs) ∷ []))
     (numbers (60 ∷ 60 ∷ 60 ∷ 60 ∷ 60 ∷ 0 ∷ 0 ∷ 0 ∷ []))
-    -- "61 any message's kind not below": the last message's; 60 before it
-    ∷ row 66 (tapes ((header 0 0 3 40 ++ blank 7 ++ blank 8) ∷ (header 0 0 2 40 ++ blank 7 ++ blank 8)
-    ∷ (header 0 0 2 40 ++ blank 7 ++ blank 0) ∷ (header 0 0 2 40 ++ blank 7 ++ blank 1) ∷ []))
-    (numbers (60 ∷ 61 ∷ 61 ∷ 0 ∷ []))
+    -- "61 any message's kind not below": the last message's; 60 before it; 8 is a kind since M-105
+    ∷ row 66 (tapes ((header 0 0 3 40 ++ blank 7 ++ blank 9) ∷ (header 0 0 2 40 ++ blank 7 ++ blank 9)
+    ∷ (header 0 0 2 40 ++ blank 7 ++ blank 0) ∷ (header 0 0 2 40 ++ blank 7 ++ blank 1) ∷ (header 0 0 2 40 ++ blank 7 ++ blank 8) ∷ []))
+    (numbers (60 ∷ 61 ∷ 61 ∷ 0 ∷ 0 ∷ []))
     -- "both over the whole tape, before the opening and all above": no legs
-    ∷ row 67 (printOf (header 0 0 2 40 ++ blank 7 ++ blank 8)) (lines (refusedLine 0 61 ∷ []))
+    ∷ row 67 (printOf (header 0 0 2 40 ++ blank 7 ++ blank 9)) (lines (refusedLine 0 61 ∷ []))
     -- "before the opening": 1 where the kinds are good
     ∷ row 68 (printOf (header 0 0 2 40 ++ blank 7 ++ blank 1)) (lines (refusedLine 0 1 ∷ []))
-    -- "A table of seven rows says which fields each kind uses"
-    ∷ row 69 (readingOf (header 2 40 7 88 ++ packedLegs ++ full 1 ++ full 2 ++ full 3 ++ full 4 ++ full 5 ++ full 6 ++ full 7))
+    -- "A table of seven rows says which fields each kind uses", and M-105 that of kind 8
+    ∷ row 69 (readingOf (header 2 40 8 88 ++ packedLegs ++ full 1 ++ full 2 ++ full 3 ++ full 4 ++ full 5 ++ full 6 ++ full 7 ++ full 8))
     (reading (reads spread (map timed (local (record { leg = 3; bidSize = 7; bid = negsuc 7; ask = pos 9; askSize = 10 })
     ∷ national (record { leg = 3; bid = negsuc 7; ask = pos 9 }) ∷ order fullTerms true ∷ response fullTerms
-    ∷ modify (record { side = B; id = 5; participant = 6; units = 7; price = negsuc 7 }) ∷ cancel 5 6 ∷ clock ∷ []))))
+    ∷ modify (record { side = B; id = 5; participant = 6; units = 7; price = negsuc 7 }) ∷ cancel 5 6 ∷ clock ∷ reduce 5 6 7 ∷ []))))
     -- "Own case"
     ∷ row 70 (printOf ownCase) (lines (titleLine ∷ fillLine (took 4 8 L legs 100 10) ∷ fillLine (took 4 8 R (entry 7) 100 5) ∷ averageLine (averageOf 8 (pos 100) 0) ∷ refusedLine 5 50 ∷ lastLine 1 0 ∷ []))
     ∷ []
@@ -580,9 +584,59 @@ thirdFridayRows =
     ∷ row 87 (openings (dated 0 1 14 ∷ dated 0 1 28 ∷ dated 0 3 18 ∷ dated 0 12 22 ∷ dated 0 1 18 ∷ [])) (numbers (replicate 5 3))
     ∷ []
 
+-- M-105, "Cancel and reduce during an auction"
+abbrev pub reduceRows : List Row
+reduceRows =
+    -- "Desks may now pull or shrink a queued order"; "Every other cancel or reduce is Noted": order 8 is pulled, order 7 shrunk, as the units in the queue show
+    row 88 (outcomesAfter spread (began 5 (pos 130)) (wishes B 8 6 (pos 129) ∷ cancels 8 1 ∷ wishes B 9 4 (pos 129) ∷ reduces 7 1 2 ∷ wishes B 10 1 (pos 129) ∷ []))
+    (outcomes (Joined 11 ∷ Noted 0 ∷ Joined 9 ∷ Noted 0 ∷ Joined 7 ∷ []))
+    -- "If the initiator is cancelled, the next queue order by price, then arrival, becomes the initiator": order 9 at 128, though order 8 came before it; its limit decides which order ends the auction
+    ∷ row 89 (outcomesAfter spread (began 5 (pos 130) ++ (wishes B 8 5 (pos 127) ∷ wishes B 9 5 (pos 128) ∷ wishes B 10 5 (pos 128) ∷ []))
+    (buyer 1 11 5 (pos 129) ∷ cancels 7 1 ∷ buyer 1 12 5 (pos 128) ∷ buyer 1 13 5 (pos 129) ∷ []))
+    (outcomes (Placed 5 0 ∷ Noted 0 ∷ Placed 5 0 ∷ Ended byOrder 0 ∷ []))
+    -- and which local quote: a derived bid of 129, not 128
+    ∷ row 90 (outcomesAfter spread (began 5 (pos 130) ++ (wishes B 8 5 (pos 127) ∷ wishes B 9 5 (pos 128) ∷ [])) (cancels 7 1 ∷ quote 0 253 10 263 10 ∷ quote 0 254 10 264 10 ∷ []))
+    (outcomes (Noted 0 ∷ Noted 0 ∷ Ended byLegs 0 ∷ []))
+    -- for a seller the lowest is next: order 9 at 97
+    ∷ row 91 (outcomesAfter spread (market ++ (wishes S 7 5 (pos 95) ∷ wishes S 8 5 (pos 98) ∷ wishes S 9 5 (pos 97) ∷ [])) (cancels 7 1 ∷ sells 1 10 5 (pos 97) ∷ sells 1 11 5 (pos 96) ∷ []))
+    (outcomes (Noted 0 ∷ Placed 5 0 ∷ Ended byOrder 0 ∷ []))
+    -- "with the same deadline": 500, though the cancel came at 300
+    ∷ row 92 (outcomesAfter spread (began 5 (pos 130) ++ (wishes B 8 5 (pos 129) ∷ [])) (at 300 (cancels 7 1) ∷ sent clock 499 ∷ sent clock 500 ∷ [])) (outcomes (Noted 0 ∷ Noted 0 ∷ Ended byTime 0 ∷ []))
+    -- "and starting leg price", with the least units that it has shown: 10, 4 and 10 again
+    ∷ row 93 (answerAfter spread (began 5 (pos 130) ++ (wishes B 8 30 (pos 130) ∷ quote 0 220 10 240 4 ∷ quote 0 220 10 240 10 ∷ cancels 7 1 ∷ [])) atDeadline)
+    (told (Ended byTime 2) (took 8 8 L legs 130 4 ∷ took 8 8 T legs 130 6 ∷ []) 1 0)
+    -- a held order that is better than the new initiator ends nothing, nor does a derived bid that is, 124 to 120, until a local quote comes
+    ∷ row 94 (outcomesAfter spread (quote 0 240 10 244 10 ∷ quote 1 114 10 116 10 ∷ wishes B 7 5 (pos 130) ∷ wishes B 8 5 (pos 120) ∷ buyer 1 9 5 (pos 128) ∷ [])
+    (cancels 7 1 ∷ sent clock 0 ∷ nbbo 0 240 244 ∷ quote 0 240 10 244 10 ∷ []))
+    (outcomes (Noted 0 ∷ Noted 0 ∷ Noted 0 ∷ Ended byLegs 0 ∷ []))
+    -- "If none is left, the auction ends, responses expire and held orders go live as usual; the outcome is Ended with a fourth cause, cancel": order 9 meets order 8, and response 20 nobody
+    ∷ row 95 (answerAfter spread (began 5 (pos 122) ++ (asks 1 20 5 (pos 105) 0 ∷ sells 1 8 9 (pos 100) ∷ buyer 1 9 6 (pos 110) ∷ [])) (cancels 7 1)) (told (Ended byCancel 1) (took 7 9 R (entry 8) 100 6 ∷ []) 1 0)
+    -- "as usual": live orders meet the legs too
+    ∷ row 96 (answerAfter spread (market ++ (buyer 1 1 5 (pos 121) ∷ wishes B 7 2 (pos 122) ∷ quote 0 220 10 230 10 ∷ [])) (cancels 7 1)) (told (Ended byCancel 1) (took 6 1 L legs 120 5 ∷ []) 0 0)
+    -- "If none is left": the last of two; then no auction is pending
+    ∷ row 97 (outcomesAfter spread (began 5 (pos 130) ++ (wishes B 8 5 (pos 129) ∷ [])) (cancels 7 1 ∷ cancels 8 1 ∷ asks 1 20 1 (pos 200) 0 ∷ cancels 8 1 ∷ []))
+    (outcomes (Noted 0 ∷ Ended byCancel 0 ∷ Refused 40 ∷ Refused 50 ∷ []))
+    -- "A reduced order keeps its arrival number": in the queue order 7 goes before order 8 at the same price
+    ∷ row 98 (answerAfter spread (beganAgainst 7 8 (pos 130) ++ (wishes B 8 5 (pos 130) ∷ reduces 7 1 5 ∷ [])) atDeadline)
+    (told (Ended byTime 2) (took 5 7 C (entry 1) 130 5 ∷ took 5 8 C (entry 1) 130 2 ∷ []) 1 0)
+    -- "Orders outside the queue may be reduced too": live order 1 goes before order 2
+    ∷ row 99 (answerAfter spread (buyer 1 1 5 (pos 120) ∷ buyer 1 2 5 (pos 120) ∷ reduces 1 1 3 ∷ []) (sells 1 9 4 (pos 120)))
+    (told (Placed 0 2) (took 4 9 R (entry 1) 120 3 ∷ took 4 9 R (entry 2) 120 1 ∷ []) 1 0)
+    -- a held order stays held, and is open to the queue with "the new open units"
+    ∷ row 100 (answerAfter spread (beganAgainst 2 9 (pos 130) ++ (sells 2 8 5 (pos 130) ∷ reduces 8 1 3 ∷ [])) atDeadline)
+    (told (Ended byTime 2) (took 5 7 C (entry 1) 130 2 ∷ took 5 7 N (entry 8) 130 3 ∷ []) 1 0)
+    -- a reduce below the class minimum, 5, leaves the auction as it is
+    ∷ row 101 (outcomesAfter (classed (spread .legs) 10 4 5 1 0) market (wishes B 7 5 (pos 130) ∷ reduces 7 1 1 ∷ asks 1 20 1 (pos 130) 0 ∷ atDeadline ∷ []))
+    (outcomes (Begun 500 ∷ Noted 0 ∷ Noted 0 ∷ Ended byTime 1 ∷ []))
+    -- "71, after 50, meets a reduce whose units are 0 or not below the open units": 50 for a response and for another participant; 5 of 7 units are open
+    ∷ row 102 (outcomesAfter spread (beganAgainst 7 2 (pos 130) ++ (atDeadline ∷ at 500 (wishes B 8 5 (pos 130)) ∷ at 500 (asks 1 20 9 (pos 200) 0) ∷ []))
+    (map (at 500) (reduces 20 1 0 ∷ reduces 1 2 0 ∷ reduces 1 1 0 ∷ reduces 1 1 5 ∷ reduces 1 1 1_000_000 ∷ reduces 1 1 4 ∷ reduces 1 1 4 ∷ [])))
+    (outcomes (Refused 50 ∷ Refused 50 ∷ Refused 71 ∷ Refused 71 ∷ Refused 71 ∷ Noted 0 ∷ Refused 71 ∷ []))
+    ∷ []
+
 -- the table
 abbrev pub sentences : List Row
-sentences = seriesRows ++ priceRows ++ lifeRows ++ auctionRows ++ executionRows ++ turnedBackRows ++ tapeRows ++ arrivalRows ++ averageRows ++ legSizeRows ++ thirdFridayRows
+sentences = seriesRows ++ priceRows ++ lifeRows ++ auctionRows ++ executionRows ++ turnedBackRows ++ tapeRows ++ arrivalRows ++ averageRows ++ legSizeRows ++ thirdFridayRows ++ reduceRows
 
 -- the rules answer as it says
 unfoldable pub SentencesHold : Type 0

@@ -7,7 +7,7 @@ use native.Mathlib.Omega.{arith}
 use lib.Dec.{eqb}
 use lib.ListN.{length}
 use Rattle.rules.specs.Basics.{pick}
-use Rattle.rules.specs.Messages.{Body, local, national, order, response, modify, cancel, clock, Message}
+use Rattle.rules.specs.Messages.{Body, local, national, order, response, modify, cancel, clock, reduce, Message}
 use Rattle.rules.specs.State.{State, taken}
 use Rattle.rules.specs.Refusals.{leastRoom, refusal}
 use Rattle.rules.specs.Turn.{Fill}
@@ -39,6 +39,7 @@ none-refused k (response t) goesOn s n = refl
 none-refused k (modify c) goesOn s n = refl
 none-refused k (cancel i p) goesOn s n = refl
 none-refused k clock goesOn s n = refl
+none-refused k (reduce i p u) goesOn s n = refl
 none-refused k b begins s n = refl
 none-refused k b joining s n = refl
 none-refused k b (ends c) s n = refl

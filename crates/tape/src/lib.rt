@@ -5,9 +5,9 @@ ghost use lib.Dec.{ltb};
 ghost use lib.IntN.{pos};
 ghost use lib.ListN.{drop};
 ghost use Rattle.rules.specs.Basics.{pick};
-ghost use Rattle.rules.specs.Messages.{order};
+ghost use Rattle.rules.specs.Messages.{order, reduce};
 ghost use Rattle.rules.specs.Tape.{settingsOf as settingsIn, headerOf as headerIn, bytesOf, legOf as legIn, usesOf as usesIn, fieldsOf as fieldsIn, usedFields, localOf as localIn, nationalOf as nationalIn, termsOf, changeOf as changeIn, bodyOf as bodyIn, messageFrom, messageOf as messageIn, legSection, messageSection, isMisplaced, overlaps, isDamaged, isKind, knownKinds, tapeRefusal};
-ghost use Rattle.types.specs.declared.Body.the-variants.{Order as sentOrder};
+ghost use Rattle.types.specs.declared.Body.the-variants.{Order as sentOrder, Reduce as sentReduce};
 ghost use Rattle.types.specs.View.{legOf, settingsOf, localOf, nationalOf, responseTerms, changeOf, bodyOf, messageOf};
 ghost use Rattle.tape.specs.View.{headerOf, usesOf, fieldsOf, Reads, sectionOf, offsetAfter};
 use types::Amounts;
@@ -20,6 +20,7 @@ use types::Modify;
 use types::National;
 use types::Opening;
 use types::Order;
+use types::Reduce;
 use types::Refusal;
 use types::Response;
 use types::Settings;
@@ -96,7 +97,7 @@ pub struct Uses {
 impl Uses {
     pub const LEAST_KIND: u8 = Fields::LOCAL;
 
-    pub const MOST_KIND: u8 = Fields::CLOCK;
+    pub const MOST_KIND: u8 = Fields::REDUCE;
 }
 
 // "1 adds leg, bid size, bid, ask, ask size".
@@ -190,10 +191,32 @@ const CLOCK: Uses = Uses {
     asksize: false,
 };
 
-// "A table of seven rows says which fields each kind uses".
-const KINDS: [Uses; 7] = [LOCAL, NATIONAL, ORDER, RESPONSE, MODIFY, CANCEL, CLOCK];
+// M-105: 8 "uses id, participant, units".
+const REDUCE: Uses = Uses {
+    side: false,
+    account: false,
+    wishorleg: false,
+    id: true,
+    participant: true,
+    units: true,
+    price: false,
+    ask: false,
+    asksize: false,
+};
 
-// The row of a kind. A kind above 7 uses nothing; 0 is no kind either, and reads the first row. Each arm names its row, so that no table is laid out to look it up.
+// "A table of seven rows says which fields each kind uses", and an eighth since M-105.
+const KINDS: [Uses; 8] = [
+    LOCAL,
+    NATIONAL,
+    ORDER,
+    RESPONSE,
+    MODIFY,
+    CANCEL,
+    CLOCK,
+    REDUCE,
+];
+
+// The row of a kind. A kind above 8 uses nothing; 0 is no kind either, and reads the first row. Each arm names its row, so that no table is laid out to look it up.
 pub fn uses_of(kind: u8) -> Uses
     ensures { λ r. ⌜ usesOf r ≡ usesIn kind ⌝ }
 {
@@ -210,7 +233,8 @@ pub fn uses_of(kind: u8) -> Uses
         Fields::RESPONSE => rows[3],
         Fields::MODIFY => rows[4],
         Fields::CANCEL => rows[5],
-        _ => rows[6],
+        Fields::CLOCK => rows[6],
+        _ => rows[7],
     }
 }
 
@@ -233,7 +257,7 @@ pub struct Fields {
 }
 
 impl Fields {
-    // "Kinds: 1 local, 2 national, 3 order, 4 response, 5 modify, 6 cancel, 7 clock".
+    // "Kinds: 1 local, 2 national, 3 order, 4 response, 5 modify, 6 cancel, 7 clock"; M-105: "kind 8, reduce".
     pub const LOCAL: u8 = 1;
 
     pub const NATIONAL: u8 = 2;
@@ -247,6 +271,8 @@ impl Fields {
     pub const CANCEL: u8 = 6;
 
     pub const CLOCK: u8 = 7;
+
+    pub const REDUCE: u8 = 8;
 }
 
 // "kind, side, account .., auction wish or leg from 0 ..; id, participant, units or bid size, price or bid, ask, ask size ..; 64-bit time".
@@ -398,6 +424,20 @@ fn modify_of(f: Fields) -> Modify
     }
 }
 
+// A reduction's; its units are "the new open units".
+fn reduce_of(f: Fields) -> Reduce
+    ensures { λ r. ⌜ bodyOf (sentReduce r) ≡ reduce (f .id) (f .participant) (f .units) ⌝ }
+{
+    let id = f.id;
+    let participant = f.participant;
+    let units = f.units;
+    Reduce {
+        id,
+        participant,
+        units,
+    }
+}
+
 // The body of a kind.
 fn body_of(f: Fields) -> Body
     ensures { λ r. ⌜ bodyOf r ≡ bodyIn (fieldsOf f) ⌝ }
@@ -422,6 +462,9 @@ fn body_of(f: Fields) -> Body
         let id = f.id;
         let participant = f.participant;
         return Body::Cancel(Cancel { id, participant });
+    }
+    if kind == Fields::REDUCE {
+        return Body::Reduce(reduce_of(f));
     }
     Body::Clock
 }
@@ -540,7 +583,7 @@ fn is_damaged(t: &[u8]) -> bool
     !sized | is_misplaced(legs, bytes) | is_misplaced(messages, bytes) | overlap(legs, messages)
 }
 
-// One of the seven kinds.
+// One of the eight kinds.
 pub fn is_kind(kind: u8) -> bool
     ensures { λ r. ⌜ r ≡ isKind kind ⌝ }
 {

@@ -2,16 +2,17 @@
 use mathlib.Core.List.{List, [], _∷_, _++_}
 use Prim.Native.Nat.{ℕ}
 use lib.Dec.{eqb}
-use Rattle.rules.specs.Outcome.{Cause, byTime, byOrder, byLegs, Outcome, Noted, Placed, Begun, Joined, Ended, Refused}
+use Rattle.rules.specs.Outcome.{Cause, byTime, byOrder, byLegs, byCancel, Outcome, Noted, Placed, Begun, Joined, Ended, Refused}
 use Rattle.rules.specs.Basics.{pick}
 use Rattle.text.specs.Ascii.{ascii}
 use Rattle.text.specs.Text.{digits, after}
 
--- "cause: time, order or legs"
+-- "cause: time, order or legs"; M-105: "a fourth cause, cancel"
 abbrev pub causeWord : Cause → List ℕ
 causeWord byTime = ascii "time"
 causeWord byOrder = ascii "order"
 causeWord byLegs = ascii "legs"
+causeWord byCancel = ascii "cancel"
 
 -- an outcome "with its own numbers"
 abbrev pub outcomeText : Outcome → List ℕ

@@ -258,6 +258,7 @@ fn put_ended(out: &mut [u8; 128], cause: Cause, fills: u32) -> usize
         Cause::Time => put_one(out, b"ended time", fills as u64),
         Cause::Order => put_one(out, b"ended order", fills as u64),
         Cause::Legs => put_one(out, b"ended legs", fills as u64),
+        Cause::Cancel => put_one(out, b"ended cancel", fills as u64),
     }
 }
 

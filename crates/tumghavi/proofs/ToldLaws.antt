@@ -9,7 +9,7 @@ use lib.Dec.{eqb}
 use lib.ListN.{length}
 use Rattle.rules.specs.Basics.{pick}
 use Rattle.rules.specs.Refusals.{refusal}
-use Rattle.rules.specs.Messages.{Body, local, national, order, response, modify, cancel, clock, Message}
+use Rattle.rules.specs.Messages.{Body, local, national, order, response, modify, cancel, clock, reduce, Message}
 use Rattle.rules.specs.State.{State, taken}
 use Rattle.rules.specs.Step as R
 use Rattle.rules.specs.Step.{Act, goesOn, begins, joining, ends}
@@ -42,6 +42,7 @@ plain-counted (response t) s n = refl
 plain-counted (modify c) s n = refl
 plain-counted (cancel i p) s n = refl
 plain-counted clock s n = refl
+plain-counted (reduce i p u) s n = refl
 
 -- an auction that begins, and an order that joins one, have none
 answered-counted : (b : Body) (a : Act) (s : State) → Counted (R.answered b a (R.follow s a))
@@ -74,6 +75,7 @@ accepted-kind (response t) goesOn s n e = omega arith
 accepted-kind (modify c) goesOn s n e = omega arith
 accepted-kind (cancel i p) goesOn s n e = omega arith
 accepted-kind clock goesOn s n e = omega arith
+accepted-kind (reduce i p u) goesOn s n e = omega arith
 accepted-kind b begins s n e = omega arith
 accepted-kind b joining s n e = omega arith
 accepted-kind b (ends c) s n e = omega arith

@@ -9,7 +9,7 @@ use denote.Ref.{now}
 use Rattle.rules.specs.Basics.{pick}
 use Rattle.rules.specs.Average as A
 use Rattle.rules.specs.Outcome as O
-use Rattle.rules.specs.Outcome.{Cause, byTime, byOrder, byLegs, Noted, Placed, Begun, Joined, Ended, Refused}
+use Rattle.rules.specs.Outcome.{Cause, byTime, byOrder, byLegs, byCancel, Noted, Placed, Begun, Joined, Ended, Refused}
 use Rattle.rules.specs.Step as R
 use Rattle.rules.specs.Tape.{Fields, messageBytes, fieldsOf}
 use Rattle.state.specs.View.{stateOf}
@@ -27,6 +27,7 @@ abbrev pub causeNumber : Cause → ℕ
 causeNumber byTime = 1
 causeNumber byOrder = 2
 causeNumber byLegs = 3
+causeNumber byCancel = 4
 
 -- kind, cause, number of a refusal, fills, units and deadline
 abbrev pub numbers : ℕ → ℕ → ℕ → ℕ → ℕ → ℕ → Outcome

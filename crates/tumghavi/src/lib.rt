@@ -69,6 +69,8 @@ impl Outcome {
     pub const BY_ORDER: u32 = 2;
 
     pub const BY_LEGS: u32 = 3;
+
+    pub const BY_CANCEL: u32 = 4;
 }
 
 // The number of a cause.
@@ -79,6 +81,7 @@ fn cause_number(c: Cause) -> u32
         Cause::Time => Outcome::BY_TIME,
         Cause::Order => Outcome::BY_ORDER,
         Cause::Legs => Outcome::BY_LEGS,
+        Cause::Cancel => Outcome::BY_CANCEL,
     }
 }
 

@@ -15,7 +15,7 @@ use Rattle.types.specs.declared.Order.{Order}
 use Rattle.types.specs.declared.Response.{Response}
 use Rattle.types.specs.declared.Modify.{Modify}
 use Rattle.types.specs.declared.Body.{Body}
-use Rattle.types.specs.declared.Body.the-variants.{Local as sentLocal, National as sentNational, Order as sentOrder, Response as sentResponse, Modify as sentModify, Cancel as sentCancel, Clock as sentClock}
+use Rattle.types.specs.declared.Body.the-variants.{Local as sentLocal, National as sentNational, Order as sentOrder, Response as sentResponse, Modify as sentModify, Cancel as sentCancel, Clock as sentClock, Reduce as sentReduce}
 use Rattle.types.specs.declared.Message.{Message}
 use Rattle.types.specs.declared.Rank.{Rank}
 use Rattle.types.specs.declared.Rank.the-variants.{L as rankL, C as rankC, N as rankN, T as rankT, R as rankR}
@@ -23,7 +23,7 @@ use Rattle.types.specs.declared.Contra.{Contra}
 use Rattle.types.specs.declared.Contra.the-variants.{Legs as contraLegs, Entry as contraEntry}
 use Rattle.types.specs.declared.Fill.{Fill}
 use Rattle.types.specs.declared.Cause.{Cause}
-use Rattle.types.specs.declared.Cause.the-variants.{Time as causeTime, Order as causeOrder, Legs as causeLegs}
+use Rattle.types.specs.declared.Cause.the-variants.{Time as causeTime, Order as causeOrder, Legs as causeLegs, Cancel as causeCancel}
 use Rattle.types.specs.declared.Outcome.{Outcome}
 use Rattle.types.specs.declared.Outcome.the-variants.{Noted as outNoted, Placed as outPlaced, Begun as outBegun, Joined as outJoined, Ended as outEnded, Refused as outRefused}
 use Rattle.rules.specs.Strategy as S
@@ -130,6 +130,7 @@ bodyOf (sentResponse r) = M.response (responseTerms r)
 bodyOf (sentModify c) = M.modify (changeOf c)
 bodyOf (sentCancel c) = M.cancel (c .id) (c .participant)
 bodyOf sentClock = M.clock
+bodyOf (sentReduce c) = M.reduce (c .id) (c .participant) (c .units)
 
 -- a message
 abbrev pub messageOf : Message → M.Message
@@ -159,6 +160,7 @@ abbrev pub causeOf : Cause → O.Cause
 causeOf causeTime = O.byTime
 causeOf causeOrder = O.byOrder
 causeOf causeLegs = O.byLegs
+causeOf causeCancel = O.byCancel
 
 -- an outcome
 abbrev pub outcomeOf : Outcome → O.Outcome

@@ -174,7 +174,14 @@ pub struct Cancel {
     pub participant: u32,
 }
 
-// The seven kinds.
+// M-105: an order reduced to these open units.
+pub struct Reduce {
+    pub id: u32,
+    pub participant: u32,
+    pub units: u32,
+}
+
+// The eight kinds.
 pub enum Body {
     Local(Local),
     National(National),
@@ -183,6 +190,7 @@ pub enum Body {
     Modify(Modify),
     Cancel(Cancel),
     Clock,
+    Reduce(Reduce),
 }
 
 pub struct Message {
@@ -223,11 +231,12 @@ impl Fill {
     pub const LEAST_ROOM: usize = 2_000;
 }
 
-// "cause: time, order or legs".
+// "cause: time, order or legs"; M-105: "a fourth cause, cancel".
 pub enum Cause {
     Time,
     Order,
     Legs,
+    Cancel,
 }
 
 // The numbers of the table that more than one function gives.

@@ -50,6 +50,7 @@ pub fn message(r: &Record) -> Message {
         5 => Message::Modify { time, side, id, participant, units, price },
         6 => Message::Cancel { time, id, participant },
         7 => Message::Clock { time },
+        8 => Message::Reduce { time, id, participant, units },
         _ => Message::Record(fields(r)),
     }
 }

@@ -385,6 +385,7 @@ impl Script {
         self.send(record);
     }
 
+    /// Cancels an order outside the queue; without one, an id that is not open.
     pub fn cancel(&mut self) {
         let order = self.any_open(|e| e.standing == Standing::Held || e.standing == Standing::Live);
         let (id, participant) = match order {
@@ -394,10 +395,41 @@ impl Script {
                 (id, Self::participant_of(id))
             }
         };
+        self.cancel_of(id, participant);
+    }
+
+    /// Cancels an order in the queue.
+    pub fn cancel_queued(&mut self) {
+        if let Some(order) = self.any_open(|e| e.standing == Standing::Queue) {
+            self.cancel_of(order.id, order.participant);
+        }
+    }
+
+    pub fn cancel_of(&mut self, id: u32, participant: u32) {
         let record = Record {
             kind: 6,
             id,
             participant,
+            time: self.soon(),
+            ..Record::default()
+        };
+        self.send(record);
+    }
+
+    /// Reduces an open order. One of a single unit cannot be reduced: it meets 71.
+    pub fn reduce(&mut self) {
+        if let Some(order) = self.any_open(Entry::is_order) {
+            let units = self.random.up_to((order.units - 1).max(1));
+            self.reduce_to(&order, units);
+        }
+    }
+
+    pub fn reduce_to(&mut self, order: &Entry, units: u32) {
+        let record = Record {
+            kind: 8,
+            id: order.id,
+            participant: order.participant,
+            units,
             time: self.soon(),
             ..Record::default()
         };
@@ -493,13 +525,18 @@ impl Script {
 
     /// A quote that makes the derived contra price better for the initiator by a little.
     pub fn improve_legs(&mut self) {
+        let leg = self.leg_of();
+        let better = self.random.price(1..=2);
+        self.improve_leg(leg, better);
+    }
+
+    /// A quote that makes a leg's price better for the initiator by so many cents.
+    pub fn improve_leg(&mut self, leg: usize, better: Cents) {
         let Some(auction) = self.engine.auction().copied() else {
             return;
         };
-        let leg = self.leg_of();
         let uses_ask = (self.legs[leg].side == b'B') == (auction.side == Side::Buy);
         let shown = self.engine.market().local[leg];
-        let better = self.random.price(1..=2);
         // The other side gives way, so that the initiator's own side does not end the auction.
         let (bid, ask) = if uses_ask {
             (shown.ask.price - better - 4, shown.ask.price - better)
@@ -512,10 +549,23 @@ impl Script {
         }
     }
 
+    pub fn queue_length(&self) -> usize {
+        let orders = self.engine.book().orders();
+        orders.filter(|o| o.standing == Standing::Queue).count()
+    }
+
+    /// The whole queue is cancelled, one order after another.
+    pub fn end_by_cancel(&mut self) {
+        for _ in 0..self.queue_length() {
+            self.cancel_queued();
+        }
+    }
+
     pub fn end_somehow(&mut self) {
-        match self.random.below(4) {
-            0 => self.end_by_order(),
-            1 => self.end_by_legs(),
+        match self.random.below(16) {
+            0..=3 => self.end_by_order(),
+            4..=7 => self.end_by_legs(),
+            8 => self.end_by_cancel(),
             _ => self.end_by_time(),
         }
         self.end_by_time();
@@ -523,7 +573,7 @@ impl Script {
 
     /// Any message that is likely to be accepted.
     pub fn anything(&mut self) {
-        match self.random.below(20) {
+        match self.random.below(22) {
             0..=3 => {
                 let leg = self.leg_of();
                 self.local(leg);
@@ -546,6 +596,8 @@ impl Script {
             19 => {
                 self.begin_any();
             }
+            20 => self.reduce(),
+            21 if self.queue_length() > 1 => self.cancel_queued(),
             _ => self.order(true),
         }
     }
@@ -586,12 +638,15 @@ impl Script {
                 },
                 ..usual
             },
-            13 => match self.engine.auction() {
-                Some(auction) => Record {
+            13 => match (self.engine.auction(), open_order) {
+                (Some(auction), Some(order)) => Record {
+                    kind: self.random.pick(&[3, 6, 8]),
+                    id: order.id,
+                    participant: order.participant,
                     time: auction.deadline + self.random.below(3),
                     ..usual
                 },
-                None => usual,
+                _ => usual,
             },
             20 => Record {
                 wish_or_leg: self.legs.len() as u8 + self.random.below(3) as u8,
@@ -633,22 +688,38 @@ impl Script {
                 },
             },
             43 => Record { kind: 4, ..usual },
-            51 => {
-                let queued = self.any_open(|e| e.standing == Standing::Queue);
+            50 => {
+                let wrong = match (self.random.below(3), open_order, open_response) {
+                    (0, Some(order), _) => (order.id, order.participant + 1),
+                    (1, _, Some(response)) => (response.id, response.participant),
+                    _ => (fresh, usual.participant),
+                };
                 Record {
-                    kind: 6,
-                    id: queued.map_or(fresh, |e| e.id),
-                    participant: queued.map_or(1, |e| e.participant),
+                    kind: self.random.pick(&[6, 8]),
+                    id: wrong.0,
+                    participant: wrong.1,
                     ..usual
                 }
             }
-            _ => Record {
-                kind: 6,
-                id: open_response.map_or(fresh, |e| e.id),
-                ..usual
+            _ => match open_order {
+                Some(order) => Record {
+                    kind: 8,
+                    id: order.id,
+                    participant: order.participant,
+                    units: self.not_below(order.units),
+                    ..usual
+                },
+                None => Record { kind: 8, ..usual },
             },
         };
         self.send(record);
+    }
+
+    /// Units that no order is reduced to while it has so many.
+    pub fn not_below(&mut self, open: u32) -> u32 {
+        let most = *Entry::UNITS.end();
+        self.random
+            .pick(&[0, open, open + 1, most, most + 1, u32::MAX])
     }
 
     /// One value of a quote outside its range.

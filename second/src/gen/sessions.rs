@@ -72,8 +72,8 @@ pub fn bad_kind(random: &mut Random) -> Vec<u8> {
 pub fn spoil_kind(script: &mut Script) {
     let kind = match script.random.below(3) {
         0 => 0,
-        1 => 8 + script.random.below(2) as u8,
-        _ => 8 + script.random.below(248) as u8,
+        1 => 9 + script.random.below(2) as u8,
+        _ => 9 + script.random.below(247) as u8,
     };
     let at = script.random.below(script.records.len() as u64) as usize;
     script.records[at].kind = kind;
@@ -213,6 +213,12 @@ pub fn deadline(random: &mut Random) -> Vec<u8> {
         }
         script.clock_at(auction.deadline - 1);
         script.response();
+        if script.random.once_in(2) {
+            script.reduce();
+        }
+        if script.random.once_in(4) {
+            script.cancel_queued();
+        }
         let after = script.random.below(2) * script.random.below(1_000);
         script.clock_at(auction.deadline + after);
     })
@@ -233,9 +239,10 @@ pub fn endings(random: &mut Random) -> Vec<u8> {
                 _ => script.response(),
             }
         }
-        match script.random.below(3) {
+        match script.random.below(4) {
             0 => script.end_by_time(),
             1 => script.end_by_order(),
+            2 => script.end_by_cancel(),
             _ => script.end_by_legs(),
         }
         script.end_by_time();
@@ -572,10 +579,11 @@ pub fn queue(random: &mut Random) -> Vec<u8> {
             return;
         }
         for _ in 0..4 + script.random.below(10) {
-            match script.random.below(6) {
+            match script.random.below(8) {
                 0 => script.response(),
                 1 => script.order(false),
-                2 => script.refused_with(51),
+                2 if script.queue_length() > 1 => script.cancel_queued(),
+                3 => script.reduce(),
                 _ => script.join(true),
             }
         }
@@ -651,7 +659,7 @@ pub fn long(random: &mut Random) -> Vec<u8> {
 }
 
 /// The numbers that one message can be refused with; 12 and 32 need a session for it.
-const REFUSABLE: [u8; 14] = [11, 13, 20, 21, 22, 30, 31, 33, 40, 41, 42, 43, 50, 51];
+const REFUSABLE: [u8; 14] = [11, 13, 20, 21, 22, 30, 31, 33, 40, 41, 42, 43, 50, 71];
 
 fn wrong_one(script: &mut Script) {
     let number = script.random.pick(&REFUSABLE);

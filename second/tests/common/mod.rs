@@ -3,9 +3,9 @@
 // Each test file uses some of these words, and none uses all.
 #![allow(dead_code)]
 
-use second::engine::{Engine, Outcome};
+use second::engine::{Cause, Engine, Outcome};
 use second::execution::{Fill, FillList};
-use second::print::{tapeprint, TITLE};
+use second::print::{run_tape, tapeprint, TITLE};
 use second::strategy::{Leg, Settings};
 use second::tape::{write_tape, Record, Tape};
 
@@ -94,6 +94,21 @@ impl Session {
     }
 }
 
+/// The records of the last message, each as order, rank, price and units.
+pub fn last_records(session: &Session, messages: &[Record]) -> String {
+    let mut text = String::new();
+    let run = run_tape(&session.tape(messages), |_, outcome, fills| {
+        assert!(!matches!(outcome, Outcome::Refused { .. }));
+        let words = fills.iter().map(|fill| {
+            let (order, rank, price) = (fill.order, fill.rank.letter(), fill.price);
+            format!("{order} {rank} {price} {}", fill.units)
+        });
+        text = words.collect::<Vec<String>>().join(", ");
+    });
+    assert!(run.is_ok());
+    text
+}
+
 /// A tape's meaning: settings, legs, and the used fields of its messages.
 pub fn meaning(bytes: &[u8]) -> String {
     let tape = Tape::lay_out(bytes).unwrap();
@@ -114,6 +129,18 @@ pub fn with_title(lines: &[&str]) -> String {
 /// Whether a message that prints nothing else is refused, and with which number.
 pub fn refused(number: u8) -> Outcome {
     Outcome::Refused { number }
+}
+
+pub fn placed(units: u32) -> Outcome {
+    Outcome::Placed { units, fills: 0 }
+}
+
+pub fn noted() -> Outcome {
+    Outcome::Noted { fills: 0 }
+}
+
+pub fn ended(cause: Cause, fills: usize) -> Outcome {
+    Outcome::Ended { cause, fills }
 }
 
 pub fn local(leg: u8, bid: i32, bid_size: u32, ask: i32, ask_size: u32) -> Record {
@@ -141,6 +168,11 @@ pub fn national(leg: u8, bid: i32, ask: i32) -> Record {
 /// Source 003's first market: "220/240 less 110/125: derived 95 and 130", sizes 10.
 pub fn market() -> [Record; 2] {
     [local(0, 220, 10, 240, 10), local(1, 110, 10, 125, 10)]
+}
+
+/// The market, then these messages.
+pub fn after_market(messages: &[Record]) -> Vec<Record> {
+    all(&[&market(), messages])
 }
 
 /// A customer's order without a wish, of participant 1, at time 0.
@@ -171,6 +203,15 @@ pub fn cancel(id: u32) -> Record {
         id,
         participant: 1,
         ..Record::default()
+    }
+}
+
+/// A reduce to so many open units.
+pub fn reduce(id: u32, units: u32) -> Record {
+    Record {
+        kind: 8,
+        units,
+        ..cancel(id)
     }
 }
 

@@ -5,13 +5,10 @@ use Rattle.book.proofs.noted.Tie as tie
 is-response-requires : tie.Need-is-response-requires
 is-response-requires c κs = search needs
 
-is-queued-requires : tie.Need-is-queued-requires
-is-queued-requires c κs = search needs
-
 returns : tie.Need-returns
 returns c =
-    let r = c .before .before .before .before .is-response .ensures in
-    (rw r, rw (c .before .before .is-queued .ensures), rw r)
+    let r = c .before .before .is-response .ensures in
+    (rw r, rw r)
 
 pub noted-spec : {M : Type 1} → statement M
-noted-spec = tie.close (tie.spec is-response-requires is-queued-requires returns)
+noted-spec = tie.close (tie.spec is-response-requires returns)

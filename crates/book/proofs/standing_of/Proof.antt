@@ -3,7 +3,7 @@ use mathlib.Core.Bool.{_&&_}
 use mathlib.Core.List.{List}
 use Prim.Native.Nat.{ℕ, _-_, _≤_}
 use native.Mathlib.Omega.{arith}
-use Rattle.rules.specs.Book.{isQueued, isResponse}
+use Rattle.rules.specs.Book.{isResponse}
 use Rattle.rules.specs.Refusals.{isOrder, ofParticipant}
 use Rattle.state.specs.View.{entryAt, openCount}
 use Rattle.book.proofs.ScanLaws.{Seen, seen-step, seen-end}
@@ -15,7 +15,6 @@ abbrev Inv-loop : tie.InvT-loop
 Inv-loop words id participant m s₀ k₀ s k =
     (k ≤ m) × (m ≡ openCount words)
     × ((longs : List ℕ) → Seen (s .order) (λ e. isOrder e && ofParticipant id participant e) (entryAt longs words) k m
-    × Seen (s .queued) (λ e. isQueued (e .stage) && ofParticipant id participant e) (entryAt longs words) k m
     × Seen (s .response) (λ e. isResponse (e .stage) && ofParticipant id participant e) (entryAt longs words) k m)
 
 abbrev μ-loop : tie.MeasureT-loop
@@ -25,7 +24,7 @@ open-count-requires : tie.Need-open-count-requires Inv-loop μ-loop
 open-count-requires c κs = search needs
 
 loop-holds : tie.Need-loop-holds Inv-loop μ-loop
-loop-holds c = (omega arith, c .open-count .ensures, λ longs. (refl, refl, refl))
+loop-holds c = (omega arith, c .open-count .ensures, λ longs. (refl, refl))
 
 add-is-of : tie.Need-add-is-of Inv-loop μ-loop
 add-is-of c = search needs
@@ -80,8 +79,7 @@ loop-again c =
       λ longs.
           let v = L .loop .inv .2 longs in (
             rw (new .0, own) (seen-step (λ e. isOrder e && ofParticipant (a .id) (a .participant) e) (entryAt longs (a .words .now)) k m (s .order) (v .0) (omega arith) refl),
-            rw (new .1, own) (seen-step (λ e. isQueued (e .stage) && ofParticipant (a .id) (a .participant) e) (entryAt longs (a .words .now)) k m (s .queued) (v .1) (omega arith) refl),
-            rw (new .2, own) (seen-step (λ e. isResponse (e .stage) && ofParticipant (a .id) (a .participant) e) (entryAt longs (a .words .now)) k m (s .response) (v .2) (omega arith) refl),
+            rw (new .1, own) (seen-step (λ e. isResponse (e .stage) && ofParticipant (a .id) (a .participant) e) (entryAt longs (a .words .now)) k m (s .response) (v .1) (omega arith) refl),
           ),
     )
 
@@ -90,7 +88,7 @@ returns c longs =
     let L = c .before in
     let f = entryAt longs (L .before .before .before .args .words .now) in
     let v = L .loop .inv .2 longs in
-    rw (← L .loop .inv .1) (seen-end _ f (L .loop .k) _ _ (v .0) (omega arith), seen-end _ f (L .loop .k) _ _ (v .1) (omega arith), seen-end _ f (L .loop .k) _ _ (v .2) (omega arith))
+    rw (← L .loop .inv .1) (seen-end _ f (L .loop .k) _ _ (v .0) (omega arith), seen-end _ f (L .loop .k) _ _ (v .1) (omega arith))
 
 pub standing-of-spec : {M : Type 1} → statement M
 standing-of-spec =

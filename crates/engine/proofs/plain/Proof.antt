@@ -27,6 +27,9 @@ enum-known-b-6 c = search needs
 enum-told : tie.Need-enum-told
 enum-told c = search needs
 
+enum-known-b-7 : tie.Need-enum-known-b-7
+enum-known-b-7 c = search needs
+
 returns : tie.Need-returns
 returns c = λ longs. rw (c .before .b .given .1) refl
 
@@ -48,6 +51,9 @@ returns-6 c = λ longs. rw (c .before .b6 .given .1) refl
 returns-7 : tie.Need-returns-7
 returns-7 c = λ longs. rw (c .enum-told .given .1) refl
 
+returns-8 : tie.Need-returns-8
+returns-8 c = λ longs. rw (c .before .b7 .given .1) refl
+
 pub plain-spec : {M : Type 1} → statement M
 plain-spec =
     tie.close
@@ -60,10 +66,12 @@ plain-spec =
     enum-known-b-5
     enum-known-b-6
     enum-told
+    enum-known-b-7
     returns
     returns-2
     returns-3
     returns-4
     returns-5
     returns-6
-    returns-7)
+    returns-7
+    returns-8)

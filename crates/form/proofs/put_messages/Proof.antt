@@ -2,20 +2,20 @@ use mathlib.Core.Path.{_≡_, refl, ap, ap₂, _∙_}
 use mathlib.Core.List.{List}
 use Prim.Native.Nat.{ℕ, _+_, _-_, _*_, _≤_}
 use native.Mathlib.Omega.{arith}
-use lib.ListN.{length, drop}
+use lib.ListN.{length, getD, drop}
 use lib.Seq.{sets}
 use Rattle.rules.specs.Spelling.{meantFrom, messagesForm}
 use Rattle.text.proofs.WroteLaws.{same}
 use Rattle.form.specs.Rows.{rowsFrom, lessers}
 use Rattle.form.proofs.WriteLaws.{messages-size, messages-step}
-use Rattle.form.proofs.RecordLaws.{bytes-of, record-bytes}
+use Rattle.form.proofs.RecordLaws.{bytes-of, row-within, record-bytes}
 use borrow.Author.Needs.{needs}
 use Rattle.form.proofs.put_messages.Statement.{statement}
 use Rattle.form.proofs.put_messages.Tie as tie
 
 abbrev Inv-loop : tie.InvT-loop
 Inv-loop out₀ at tape from count rows end₀ next₀ left₀ out end next left =
-    (left ≤ count) × (end + 36 * left ≡ at + 36 * count) × (at + 36 * count ≤ length out₀) × (36 * left ≤ length tape - next) × (rows ≡ rowsFrom 7 1) × (length rows ≡ 252) × (length out ≡ length out₀)
+    (left ≤ count) × (end + 36 * left ≡ at + 36 * count) × (at + 36 * count ≤ length out₀) × (36 * left ≤ length tape - next) × (rows ≡ rowsFrom 8 1) × (length rows ≡ 288) × (length out ≡ length out₀)
     × (sets out end (messagesForm (meantFrom left (drop next tape))) ≡ sets out₀ at (messagesForm (meantFrom count (drop from tape))))
 
 abbrev μ-loop : tie.MeasureT-loop
@@ -31,7 +31,10 @@ row-at-requires : tie.Need-row-at-requires Inv-loop μ-loop
 row-at-requires c κs = search needs
 
 put-message-requires : tie.Need-put-message-requires Inv-loop μ-loop
-put-message-requires c κs = search needs
+put-message-requires c κs =
+    let R = c .before in
+    let kind = getD (R .before .before .before .before .before .before .before .args .tape .now) (R .before .before .before .loop .next) 0 in
+    (omega arith, omega arith, omega (arith, row-within kind _ (R .row-at .ensures)))
 
 add-next : tie.Need-add-next Inv-loop μ-loop
 add-next c = search needs

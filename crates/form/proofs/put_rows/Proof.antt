@@ -11,11 +11,11 @@ use Rattle.form.proofs.put_rows.Tie as tie
 
 abbrev Inv-loop : tie.InvT-loop
 Inv-loop rows₀ end₀ kind₀ rows end kind =
-    (1 ≤ kind) × (kind ≤ 8) × (end + 36 ≡ 36 * kind) × (252 ≤ length rows₀) × (length rows ≡ length rows₀)
-    × (sets rows end (rowsFrom (8 - kind) kind) ≡ sets rows₀ 0 (rowsFrom 7 1))
+    (1 ≤ kind) × (kind ≤ 9) × (end + 36 ≡ 36 * kind) × (288 ≤ length rows₀) × (length rows ≡ length rows₀)
+    × (sets rows end (rowsFrom (9 - kind) kind) ≡ sets rows₀ 0 (rowsFrom 8 1))
 
 abbrev μ-loop : tie.MeasureT-loop
-μ-loop rows₀ end₀ kind₀ rows end kind = 8 - kind
+μ-loop rows₀ end₀ kind₀ rows end kind = 9 - kind
 
 loop-holds : tie.Need-loop-holds Inv-loop μ-loop
 loop-holds c = (search needs, search needs, search needs, search needs, search needs, refl)
@@ -45,7 +45,7 @@ returns : tie.Need-returns Inv-loop μ-loop
 returns c =
     let L = c .before .loop in
     let v = L .inv in
-    let z : L .kind ≡ 8 = omega arith in
+    let z : L .kind ≡ 9 = omega arith in
     (record { end = omega arith; holds = rw z at (v .5) }, v .4, omega arith)
 
 pub put-rows-spec : {M : Type 1} → statement M

@@ -44,6 +44,12 @@ enum-told c = search needs
 clock-in-requires : tie.Need-clock-in-requires
 clock-in-requires c κs = search needs
 
+enum-known-b-7 : tie.Need-enum-known-b-7
+enum-known-b-7 c = search needs
+
+reduce-in-requires : tie.Need-reduce-in-requires
+reduce-in-requires c κs = search needs
+
 same-length : tie.Need-same-length
 same-length c = search needs
 
@@ -121,6 +127,17 @@ returns-7 c =
     let I = c .before .before .before .before in
     rw (I .before .before .before .enum-told .given .1) (I .clock-in .ensures)
 
+same-length-15 : tie.Need-same-length-15
+same-length-15 c = search needs
+
+same-length-16 : tie.Need-same-length-16
+same-length-16 c = search needs
+
+returns-8 : tie.Need-returns-8
+returns-8 c =
+    let I = c .before .before .before .before in
+    rw (I .before .before .before .before .b7 .given .1) (I .reduce-in .ensures)
+
 pub take-in-spec : {M : Type 1} → statement M
 take-in-spec =
     tie.close
@@ -139,6 +156,8 @@ take-in-spec =
     cancel-in-requires
     enum-told
     clock-in-requires
+    enum-known-b-7
+    reduce-in-requires
     same-length
     same-length-2
     returns
@@ -159,4 +178,7 @@ take-in-spec =
     returns-6
     same-length-13
     same-length-14
-    returns-7)
+    returns-7
+    same-length-15
+    same-length-16
+    returns-8)

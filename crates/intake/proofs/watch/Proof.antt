@@ -27,6 +27,9 @@ enum-known-b-6 c = search needs
 enum-told : tie.Need-enum-told
 enum-told c = search needs
 
+enum-known-b-7 : tie.Need-enum-known-b-7
+enum-known-b-7 c = search needs
+
 same-length : tie.Need-same-length
 same-length c = search needs
 
@@ -56,6 +59,9 @@ returns-6 c = rw (c .before .b6 .given .1) refl
 returns-7 : tie.Need-returns-7
 returns-7 c = rw (c .enum-told .given .1) refl
 
+returns-8 : tie.Need-returns-8
+returns-8 c = rw (c .before .b7 .given .1) refl
+
 pub watch-spec : {M : Type 1} → statement M
 watch-spec =
     tie.close
@@ -68,6 +74,7 @@ watch-spec =
     enum-known-b-5
     enum-known-b-6
     enum-told
+    enum-known-b-7
     same-length
     same-length-2
     returns
@@ -76,4 +83,5 @@ watch-spec =
     returns-4
     returns-5
     returns-6
-    returns-7)
+    returns-7
+    returns-8)

@@ -41,6 +41,12 @@ cancel-row-requires c κs = search needs
 enum-told : tie.Need-enum-told
 enum-told c = search needs
 
+enum-known-b-7 : tie.Need-enum-known-b-7
+enum-known-b-7 c = search needs
+
+reduce-row-requires : tie.Need-reduce-row-requires
+reduce-row-requires c κs = search needs
+
 returns : tie.Need-returns
 returns c = λ longs. rw (c .before .before .b .given .1) (c .local-row .ensures longs)
 
@@ -62,6 +68,9 @@ returns-6 c = λ longs. rw (c .before .before .b6 .given .1) (c .cancel-row .ens
 returns-7 : tie.Need-returns-7
 returns-7 c = λ longs. rw (c .enum-told .given .1)
 
+returns-8 : tie.Need-returns-8
+returns-8 c = λ longs. rw (c .before .before .b7 .given .1) (c .reduce-row .ensures longs)
+
 pub kind-row-spec : {M : Type 1} → statement M
 kind-row-spec =
     tie.close
@@ -79,10 +88,13 @@ kind-row-spec =
     enum-known-b-6
     cancel-row-requires
     enum-told
+    enum-known-b-7
+    reduce-row-requires
     returns
     returns-2
     returns-3
     returns-4
     returns-5
     returns-6
-    returns-7)
+    returns-7
+    returns-8)

@@ -31,7 +31,7 @@ returns c = λ longs.
       c .first3 .ensures,
       c .before .first2 .ensures,
       c .before .before .first .ensures,
-      c .before .before .before .before .standing-of .ensures longs .2,
+      c .before .before .before .before .standing-of .ensures longs .1,
       c .before .before .before .before .before .good-fields .ensures ∙ ap (goodFields (a .t .side) (a .t .id) (a .t .participant) (a .t .units)) (toZ-ofZ {w = w32} {z = a .t .price} (search needs)),
       c .before .before .before .before .before .before .before .is-pending .ensures longs,
     )

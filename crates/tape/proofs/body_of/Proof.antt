@@ -36,15 +36,22 @@ returns-5 c = rw (c .before .if5 .taken, c .modify-of .ensures)
 returns-6 : tie.Need-returns-6
 returns-6 c = rw (c .if6 .taken)
 
+reduce-of-requires : tie.Need-reduce-of-requires
+reduce-of-requires c κs = search needs
+
 returns-7 : tie.Need-returns-7
-returns-7 c =
+returns-7 c = rw (c .before .if7 .taken, c .reduce-of .ensures)
+
+returns-8 : tie.Need-returns-8
+returns-8 c =
     rw (
-      ne-eqb _ _ (c .before .before .before .before .before .if1 .left),
-      ne-eqb _ _ (c .before .before .before .before .if2 .left),
-      ne-eqb _ _ (c .before .before .before .if3 .left),
-      ne-eqb _ _ (c .before .before .if4 .left),
-      ne-eqb _ _ (c .before .if5 .left),
-      ne-eqb _ _ (c .if6 .left),
+      ne-eqb _ _ (c .before .before .before .before .before .before .if1 .left),
+      ne-eqb _ _ (c .before .before .before .before .before .if2 .left),
+      ne-eqb _ _ (c .before .before .before .before .if3 .left),
+      ne-eqb _ _ (c .before .before .before .if4 .left),
+      ne-eqb _ _ (c .before .before .if5 .left),
+      ne-eqb _ _ (c .before .if6 .left),
+      ne-eqb _ _ (c .if7 .left),
     )
 
 pub body-of-spec : {M : Type 1} → statement M
@@ -62,4 +69,6 @@ body-of-spec =
     modify-of-requires
     returns-5
     returns-6
-    returns-7)
+    reduce-of-requires
+    returns-7
+    returns-8)

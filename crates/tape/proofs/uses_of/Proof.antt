@@ -34,6 +34,9 @@ array-copy-out-result-6 c = search needs
 array-copy-out-result-7 : tie.Need-array-copy-out-result-7
 array-copy-out-result-7 c = search needs
 
+array-copy-out-result-8 : tie.Need-array-copy-out-result-8
+array-copy-out-result-8 c = search needs
+
 returns-3 : tie.Need-returns-3
 returns-3 c = let e : c .before .before .before .before .args .kind ≡ 2 = omega arith in rw e
 
@@ -52,6 +55,9 @@ returns-7 c = let e : c .before .before .before .before .args .kind ≡ 6 = omeg
 returns-8 : tie.Need-returns-8
 returns-8 c = let e : c .before .before .before .before .args .kind ≡ 7 = omega arith in rw e
 
+returns-9 : tie.Need-returns-9
+returns-9 c = let e : c .before .before .before .before .args .kind ≡ 8 = omega arith in rw e
+
 pub uses-of-spec : {M : Type 1} → statement M
 uses-of-spec =
     tie.close
@@ -65,9 +71,11 @@ uses-of-spec =
     array-copy-out-result-5
     array-copy-out-result-6
     array-copy-out-result-7
+    array-copy-out-result-8
     returns-3
     returns-4
     returns-5
     returns-6
     returns-7
-    returns-8)
+    returns-8
+    returns-9)

@@ -1,4 +1,4 @@
-use Rattle.types.specs.declared.Cause.the-variants.{Time, Order, Legs}
+use Rattle.types.specs.declared.Cause.the-variants.{Time, Order, Legs, Cancel}
 use borrow.Author.Needs.{needs}
 use Rattle.text.proofs.AnswerLaws.{put-end}
 use Rattle.text.proofs.put_ended.Statement.{statement}
@@ -31,6 +31,15 @@ slice-aggregate-put-one-3 c = search needs
 put-one-requires-3 : tie.Need-put-one-requires-3
 put-one-requires-3 c κs = search needs
 
+enum-told-4 : tie.Need-enum-told-4
+enum-told-4 c = search needs
+
+slice-aggregate-put-one-4 : tie.Need-slice-aggregate-put-one-4
+slice-aggregate-put-one-4 c = search needs
+
+put-one-requires-4 : tie.Need-put-one-requires-4
+put-one-requires-4 c κs = search needs
+
 returns : tie.Need-returns
 returns c = put-end _ Time _ (c .before .before .before .before .before .args .out .now) _ _ (c .before .before .before .enum-told .given .1) (c .put-one .ensures)
 
@@ -39,6 +48,9 @@ returns-2 c = put-end _ Order _ (c .before .before .before .before .before .args
 
 returns-3 : tie.Need-returns-3
 returns-3 c = put-end _ Legs _ (c .before .before .before .before .before .args .out .now) _ _ (c .before .before .before .enum-told3 .given .1) (c .put-one3 .ensures)
+
+returns-4 : tie.Need-returns-4
+returns-4 c = put-end _ Cancel _ (c .before .before .before .before .before .args .out .now) _ _ (c .before .before .before .enum-told4 .given .1) (c .put-one4 .ensures)
 
 pub put-ended-spec : {M : Type 1} → statement M
 put-ended-spec =
@@ -53,6 +65,10 @@ put-ended-spec =
     enum-told-3
     slice-aggregate-put-one-3
     put-one-requires-3
+    enum-told-4
+    slice-aggregate-put-one-4
+    put-one-requires-4
     returns
     returns-2
-    returns-3)
+    returns-3
+    returns-4)
