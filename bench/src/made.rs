@@ -37,6 +37,11 @@ pub fn cases() -> Vec<Case> {
     };
     let mut cases: Vec<Case> = MESSAGES.iter().flat_map(row).collect();
     cases.extend(FILLS.iter().map(fill_case));
+    cases.extend(
+        BOOKED
+            .iter()
+            .flat_map(|row| MARKETS.iter().flat_map(|market| [false, true].map(|near| booked_case(row, market, near)))),
+    );
     cases
 }
 
@@ -57,10 +62,19 @@ const LEGS: [Leg; 2] = [
     Leg { symbol: *b"XYZ   260116C00025000", side: b'S', ratio: 1, mpv: 5 },
 ];
 
-const MOST_RECORDS: usize = (Tape::MOST_BYTES - Header::BYTES - LEGS.len() * Leg::BYTES) / Record::BYTES;
+/// The most records of a tape with so many legs.
+const fn most_records(legs: usize) -> usize {
+    (Tape::MOST_BYTES - Header::BYTES - legs * Leg::BYTES) / Record::BYTES
+}
+
+const MOST_RECORDS: usize = most_records(LEGS.len());
 
 fn tape(records: &[Record]) -> Vec<u8> {
-    write_tape(&SETTINGS, &LEGS, records).expect("no more than the most records")
+    tape_of(&LEGS, records)
+}
+
+fn tape_of(legs: &[Leg], records: &[Record]) -> Vec<u8> {
+    write_tape(&SETTINGS, legs, records).expect("no more than the most records")
 }
 
 // Messages; at the opening's time, where no other is said.
@@ -219,8 +233,8 @@ type MakeGroup = fn(u64, bool) -> Vec<Record>;
 const FILLS: [(&str, usize, MakeGroup); 4] = [
     ("the legs, no auction", 1, legs_fill),
     ("orders by arrival, no auction", 15, orders_fill),
-    ("32 responses at one price", 32, |k, more| auction(k, |_| if more { 120 } else { 126 })),
-    ("32 responses at 32 prices", 32, |k, more| auction(k, |n| n as Cents + if more { 94 } else { 126 })),
+    ("32 responses at one price", 32, |k, more| auction(k, 32, |_| if more { 120 } else { 126 })),
+    ("32 responses at 32 prices", 32, |k, more| auction(k, 32, |n| n as Cents + if more { 94 } else { 126 })),
 ];
 
 fn fill_case(&(name, fills, group): &(&str, usize, MakeGroup)) -> Case {
@@ -256,14 +270,74 @@ fn orders_fill(_: u64, more: bool) -> Vec<Record> {
     sellers.chain((1..=16).map(|k| order(16 + k, b'B', units(k), 110))).collect()
 }
 
-/// An auction of a buyer of 33 units at 125, with 32 responses of 1 unit; the buyer's rest is cancelled.
-fn auction(k: u64, price: impl Fn(u32) -> Cents) -> Vec<Record> {
+/// An auction of a buyer at 125, with so many responses of 1 unit, and of 1 unit more; the buyer's rest is cancelled.
+fn auction(k: u64, responses: u32, price: impl Fn(u32) -> Cents) -> Vec<Record> {
     let begins = SETTINGS.opening_time + k * INTERVAL;
     let ends = begins + INTERVAL;
-    let mut records = vec![at(begins, asking(order(1, b'B', 33, 125)))];
-    records.extend((0..32).map(|n| at(begins, response(n, price(n)))));
+    let mut records = vec![at(begins, asking(order(1, b'B', responses + 1, 125)))];
+    records.extend((0..responses).map(|n| at(begins, response(n, price(n)))));
     records.extend([at(ends, clock()), at(ends, cancel(1))]);
     records
+}
+
+// Leg prices.
+
+/// Legs, each with its side, ratio, bid and how far its ask is above it; the derived ask is 130.
+struct Market {
+    name: &'static str,
+    legs: &'static [(u8, u8, Cents, Cents)],
+    /// A price in the middle of the legs' nets.
+    middle: Cents,
+}
+
+/// Of the last no prices make the middle: its nets are multiples of 9 from one of two numbers on.
+const MARKETS: [Market; 4] = [
+    Market { name: "1:1", legs: &[(b'B', 1, 220, 50), (b'S', 1, 140, 50)], middle: 64 },
+    Market { name: "8:9", legs: &[(b'B', 8, 90, 50), (b'S', 9, 110, 50)], middle: -295 },
+    Market {
+        name: "9:8:7:5",
+        legs: &[(b'B', 9, 100, 50), (b'S', 8, 200, 50), (b'B', 7, 100, 50), (b'S', 5, 134, 50)],
+        middle: -595,
+    },
+    Market {
+        name: "9:9:9:8",
+        legs: &[(b'B', 9, 100, 50), (b'S', 9, 194, 50), (b'B', 9, 100, 50), (b'S', 8, 103, 1)],
+        middle: -550,
+    },
+];
+
+/// How many responses an auction has, and whether each has a price of its own.
+const BOOKED: [(&str, u32, bool); 3] =
+    [("1 response", 1, false), ("32 responses at one price", 32, false), ("32 responses at 32 prices", 32, true)];
+
+/// Fills for which leg prices are looked for, or that have none as the first leg is 51 cents wide.
+fn booked_case(&(name, responses, apart): &(&str, u32, bool), market: &Market, near: bool) -> Case {
+    let symbols =
+        [*b"XYZ   260116C00020000", *b"XYZ   260116C00025000", *b"XYZ   260116C00030000", *b"XYZ   260116C00035000"];
+    let legs = symbols.into_iter().zip(market.legs);
+    let legs: Vec<Leg> = legs.map(|(symbol, &(side, ratio, _, _))| Leg { symbol, side, ratio, mpv: 5 }).collect();
+    let lower = |k: usize| Cents::from(k == 0 && !near);
+    let quote =
+        |(k, &(_, _, bid, wide)): (usize, &(u8, u8, Cents, Cents))| local(k as u8, bid - lower(k), bid + wide, 50);
+    let quotes: Vec<Record> = market.legs.iter().enumerate().map(quote).collect();
+    let price = |n: u32, more: bool| match more {
+        true => market.middle + if apart { n as Cents } else { 0 },
+        false => 126,
+    };
+    let group = |k: u64, more: bool| auction(k, responses, |n| price(n, more));
+    let groups = (most_records(legs.len()) - quotes.len()) / group(0, true).len();
+    let records = |more: bool| (0..groups as u64).flat_map(|k| group(k, more)).collect();
+    Case {
+        table: "A fill, by its leg prices",
+        row: name.into(),
+        column: format!("{}, {}", market.name, if near { "near" } else { "wide" }),
+        tapes: [false, true].map(|more| tape_of(&legs, &[quotes.clone(), records(more)].concat())),
+        last_line: "open 0 answers 0".into(),
+        pending: false,
+        messages: 0,
+        refused: 0,
+        fills: groups * responses as usize,
+    }
 }
 
 // Tapes of one meaning in other bytes.

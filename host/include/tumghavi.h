@@ -114,7 +114,7 @@ typedef struct tumghavi_outcome {
     uint64_t deadline;
 } tumghavi_outcome;
 
-/* A fill record; rank, contra and price are read by the functions below. */
+/* A fill record; rank, contra, price and the leg prices are read by the functions below. */
 typedef struct tumghavi_fill {
     uint64_t number;
     uint64_t order;
@@ -122,7 +122,12 @@ typedef struct tumghavi_fill {
     uint64_t contra;
     uint64_t price;
     uint64_t units;
+    uint64_t legs;
+    uint64_t leg_prices[4];
 } tumghavi_fill;
+
+/* The numbers of a fill record. */
+#define TUMGHAVI_FILL_NUMBERS 11
 
 /* The places that a fill list must have: no message has more records. */
 #define TUMGHAVI_LEAST_PLACES 2000
@@ -199,13 +204,13 @@ static inline uint32_t tumghavi_open(tumghavi_copy *copy, const tumghavi_opening
  */
 static inline tumghavi_outcome tumghavi_step(tumghavi_copy *copy, const tumghavi_message *message, tumghavi_fill *fills, size_t places)
 {
-    return tumghavi_step_in(copy->longs, copy->words, &fills->number, places * 6, *message);
+    return tumghavi_step_in(copy->longs, copy->words, &fills->number, places * TUMGHAVI_FILL_NUMBERS, *message);
 }
 
 /* The same from a message record's bytes. Bytes that are not TUMGHAVI_RECORD_SIZE are no record and are refused with 61. */
 static inline tumghavi_outcome tumghavi_record(tumghavi_copy *copy, const uint8_t *bytes, size_t size, tumghavi_fill *fills, size_t places)
 {
-    return tumghavi_record_in(copy->longs, copy->words, &fills->number, places * 6, bytes, size);
+    return tumghavi_record_in(copy->longs, copy->words, &fills->number, places * TUMGHAVI_FILL_NUMBERS, bytes, size);
 }
 
 /* How many orders and responses are open in a copy. */
@@ -240,6 +245,24 @@ static inline uint32_t tumghavi_fill_contra(const tumghavi_fill *fill)
     return fill->contra == 0 ? 0 : (uint32_t)(fill->contra - 1);
 }
 
+/*
+ * Of how many legs it has prices: of all, or of none. A fill with the legs has the prices taken. Any other has prices inside each
+ * leg's local bid and ask as they stood just before it, whose net is its price; of several the lowest on leg 0, then on leg 1, and
+ * so on. It has none where a leg lacks a side, a leg's ask is more than 50 cents above its bid, or no such prices exist.
+ */
+static inline size_t tumghavi_fill_leg_count(const tumghavi_fill *fill)
+{
+    if (fill->legs == 0)
+        return 0;
+    return fill->legs < 5 ? (size_t)(fill->legs - 1) : 4;
+}
+
+/* The price of a leg, from 0, in cents; 0 where it has none. */
+static inline uint64_t tumghavi_fill_leg_price(const tumghavi_fill *fill, size_t leg)
+{
+    return leg < tumghavi_fill_leg_count(fill) ? fill->leg_prices[leg] : 0;
+}
+
 /* ---- the fills of a message */
 
 /*
@@ -249,7 +272,7 @@ static inline uint32_t tumghavi_fill_contra(const tumghavi_fill *fill)
  */
 static inline tumghavi_average_price tumghavi_average(const tumghavi_fill *fills, size_t count, uint32_t order)
 {
-    return tumghavi_average_in(&fills->number, count * 6, count, order);
+    return tumghavi_average_in(&fills->number, count * TUMGHAVI_FILL_NUMBERS, count, order);
 }
 
 /* ---- a copy as bytes, little-endian, on any machine */

@@ -33,10 +33,13 @@ pub enum Contra {
 
 impl Fill {
     /// The numbers that the library writes for a record.
-    pub const NUMBERS: usize = 6;
+    pub const NUMBERS: usize = 11;
 
     /// The places that a fill list must have: no message has more records.
     pub const LEAST_PLACES: usize = 2_000;
+
+    /// The prices of legs that a record has room for.
+    const MOST_LEGS: u64 = 4;
 
     /// A place that nothing was written to.
     pub const BLANK: Fill = Fill([0; Fill::NUMBERS]);
@@ -83,9 +86,17 @@ impl Fill {
     pub fn units(&self) -> u32 {
         narrow(self.0[5])
     }
+
+    /// The price of each leg, in cents. A fill with the legs has the prices taken. Any other has prices inside each leg's local
+    /// bid and ask as they stood just before it, whose net is its price; of several the lowest on leg 0, then on leg 1, and so on.
+    /// It has none where a leg lacks a side, a leg's ask is more than 50 cents above its bid, or no such prices exist.
+    pub fn leg_prices(&self) -> Option<&[u64]> {
+        let legs = self.0[6].checked_sub(1)?.min(Fill::MOST_LEGS);
+        Some(&self.0[7..][..legs as usize])
+    }
 }
 
-/// The record that six numbers stand for, in the library's own form: any numbers do.
+/// The record that eleven numbers stand for, in the library's own form: any numbers do.
 impl From<[u64; Fill::NUMBERS]> for Fill {
     fn from(numbers: [u64; Fill::NUMBERS]) -> Fill {
         Fill(numbers)
@@ -136,6 +147,7 @@ impl fmt::Debug for Fill {
             .field("contra", &self.contra())
             .field("price", &self.price())
             .field("units", &self.units())
+            .field("leg_prices", &self.leg_prices())
             .finish()
     }
 }

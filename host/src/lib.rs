@@ -44,6 +44,9 @@
 //! assert_eq!(fills[0].to_string(), "4 8 L 0 100 10");
 //! assert_eq!(fills[1].to_string(), "4 8 R 7 100 5");
 //! assert_eq!((fills[1].rank(), fills[1].contra(), fills[1].units()), (Rank::R, Contra::Entry(7), 5));
+//! // The legs' bid and ask that the seller took are gone, so that the second fill has no leg prices.
+//! assert_eq!(fills[0].leg_prices(), Some(&[220, 120][..]));
+//! assert_eq!(fills[1].leg_prices(), None);
 //! assert_eq!(outcome.average(&fills, 8), Average::Exact { quotient: 100, remainder: 0 });
 //! // Order 7 was only the other side.
 //! assert_eq!(outcome.average(&fills, 7), Average::None);

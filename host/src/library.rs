@@ -58,7 +58,7 @@ pub fn open(longs: &mut [u64; LONGS], words: &mut [u32; WORDS], opening: Opening
 }
 
 pub fn step(longs: &mut [u64; LONGS], words: &mut [u32; WORDS], fills: &mut [Fill], message: Record) -> OutcomeRow {
-    // SAFETY: as in `open`; a fill is six numbers and nothing else, so that the slice is as many times six numbers.
+    // SAFETY: as in `open`; a fill is eleven numbers and nothing else, so that the slice is as many times eleven numbers.
     unsafe { tumghavi_step_in(longs, words, fills.as_mut_ptr().cast(), numbers(fills), message) }
 }
 
@@ -73,7 +73,7 @@ pub fn counts(words: &[u32; WORDS]) -> Counts {
 }
 
 pub fn average(fills: &[Fill], count: usize, order: u32) -> AverageRow {
-    // SAFETY: a fill is six numbers, as in `step`; they are only read, and whatever the count is the library stays inside them.
+    // SAFETY: a fill is eleven numbers, as in `step`; they are only read, and whatever the count is the library stays inside them.
     unsafe { tumghavi_average_in(fills.as_ptr().cast(), numbers(fills), count, order) }
 }
 

@@ -76,7 +76,7 @@ impl Outcome {
     /// use tumghavi::{Average, Fill, Outcome};
     ///
     /// // Order 8: one unit at -3 and one at -4; a third record is of another message.
-    /// let at = |price: i64| Fill::from([4, 8, 0, 0, (40_000_000 + price) as u64, 1]);
+    /// let at = |price: i64| Fill::from([4, 8, 0, 0, (40_000_000 + price) as u64, 1, 0, 0, 0, 0, 0]);
     /// let (fills, outcome) = ([at(-3), at(-4), at(100)], Outcome::Noted { fills: 2 });
     /// assert_eq!(outcome.average(&fills, 8), Average::Exact { quotient: -4, remainder: 1 });
     /// assert_eq!(outcome.average(&fills, 9), Average::None);

@@ -121,7 +121,7 @@ const MOST_BIASED: u64 = 1 << 62;
 /// list or behind the first 2,000 records does not count.
 fn reworked(list: &[Numbers], count: usize, order: u32) -> Average {
     let (mut sum, mut units) = (0, 0);
-    for &[_, id, _, _, price, given] in list.iter().take(count.min(2_000)) {
+    for &[_, id, _, _, price, given, ..] in list.iter().take(count.min(2_000)) {
         if id.min(GREATEST) == u64::from(order) {
             let given = i128::from(given.min(GREATEST));
             sum += (i128::from(price.min(MOST_BIASED)) - BIAS) * given;
@@ -162,7 +162,9 @@ fn any_numbers(random: &mut Random) -> Numbers {
     let units = [0, 1, random.below(1_000), GREATEST - 1, GREATEST, GREATEST + 1, u64::MAX];
     let order = one_of_or_any(random, &[0, 1, 7, GREATEST - 1, GREATEST, GREATEST + 1, GREATEST + 8]);
     let (price, units) = (one_of_or_any(random, &prices), one_of_or_any(random, &units));
-    [random.number(), order, random.number(), random.number(), price, units]
+    let mut numbers = [0; Fill::NUMBERS].map(|_: u64| random.number());
+    (numbers[1], numbers[4], numbers[5]) = (order, price, units);
+    numbers
 }
 
 /// One list, with counts up to its end and past it.
@@ -200,7 +202,7 @@ fn greatest_numbers() {
     assert_eq!(library_average(&fills(&list), 2_000, u32::MAX), exact(greatest, 0));
     list[1_000][4] = MOST_BIASED - 1;
     assert_eq!(library_average(&fills(&list), 2_000, u32::MAX), exact(greatest - 1, 1_999 * i128::from(GREATEST)));
-    list.fill([u64::MAX, u64::MAX, u64::MAX, u64::MAX, 0, u64::MAX]);
+    list.iter_mut().for_each(|numbers| numbers[4] = 0);
     assert_eq!(library_average(&fills(&list), 2_000, u32::MAX), exact(-BIAS, 0));
     list[1_999][4] = 1;
     assert_eq!(library_average(&fills(&list), 2_000, u32::MAX), exact(-BIAS, GREATEST.into()));
@@ -209,7 +211,7 @@ fn greatest_numbers() {
 /// Of 2,001 records of a unit the 2,000th counts, and the last does not, whatever it holds.
 #[test]
 fn the_last_record_that_counts() {
-    let unit_at = |price: u64| [4, 8, 4, 8, BIAS as u64 + price, 1];
+    let unit_at = |price: u64| [4, 8, 4, 8, BIAS as u64 + price, 1, 0, 0, 0, 0, 0];
     let mut list = vec![unit_at(100); 2_001];
     list[1_999] = unit_at(101);
     for last in [unit_at(100), unit_at(5_000), [u64::MAX; Fill::NUMBERS], [8; Fill::NUMBERS]] {
@@ -229,7 +231,7 @@ fn the_last_record_that_counts() {
 /// Only an outcome that counts records has averages.
 #[test]
 fn outcomes_without_records() {
-    let list = [Fill::from([4, 8, 4, 8, BIAS as u64, 1])];
+    let list = [Fill::from([4, 8, 4, 8, BIAS as u64, 1, 0, 0, 0, 0, 0])];
     let refused = Outcome::Refused(tumghavi::Refusal::new(50));
     for outcome in [Outcome::Begun { deadline: 9 }, Outcome::Joined { units: 9 }, Outcome::Noted { fills: 0 }, refused]
     {

@@ -7,7 +7,7 @@
 typedef char opening_size[sizeof(tumghavi_opening) == 136 ? 1 : -1];
 typedef char message_size[sizeof(tumghavi_message) == 40 ? 1 : -1];
 typedef char outcome_size[sizeof(tumghavi_outcome) == 32 ? 1 : -1];
-typedef char fill_size[sizeof(tumghavi_fill) == 48 ? 1 : -1];
+typedef char fill_size[sizeof(tumghavi_fill) == 88 ? 1 : -1];
 typedef char average_size[sizeof(tumghavi_average_price) == 24 ? 1 : -1];
 typedef char reply_size[sizeof(tumghavi_reply) == 16 ? 1 : -1];
 
@@ -141,6 +141,18 @@ static int is_none(tumghavi_average_price average)
     return average.kind == TUMGHAVI_NO_AVERAGE && average.quotient == 0 && average.remainder == 0;
 }
 
+/* Whether a record has the prices of two legs, read in both ways. */
+static int has_prices(const tumghavi_fill *fill, uint64_t first, uint64_t second)
+{
+    const int read = tumghavi_fill_leg_price(fill, 0) == first && tumghavi_fill_leg_price(fill, 1) == second;
+    return tumghavi_fill_leg_count(fill) == 2 && read && fill->leg_prices[0] == first && fill->leg_prices[1] == second;
+}
+
+static int has_no_prices(const tumghavi_fill *fill)
+{
+    return tumghavi_fill_leg_count(fill) == 0 && fill->legs == 0 && tumghavi_fill_leg_price(fill, 0) == 0;
+}
+
 static tumghavi_outcome send(tumghavi_copy *copy, tumghavi_message message)
 {
     return tumghavi_step(copy, &message, fills, TUMGHAVI_LEAST_PLACES);
@@ -184,6 +196,7 @@ static void outcomes(void)
     EXPECT(outcome.kind == TUMGHAVI_ENDED && outcome.cause == TUMGHAVI_BY_TIME && outcome.fills == 1 && outcome.units == 0 && outcome.deadline == 0);
     EXPECT(fills[0].number == 7 && fills[0].order == 11 && tumghavi_fill_rank(&fills[0]) == 'N' && fills[0].units == 30);
     EXPECT(!tumghavi_fill_is_legs(&fills[0]) && tumghavi_fill_contra(&fills[0]) == 21 && tumghavi_fill_price(&fills[0]) == -120);
+    EXPECT(has_no_prices(&fills[0]));
     EXPECT(is_average(tumghavi_average(fills, outcome.fills, 11), -120, 0));
     EXPECT(is_none(tumghavi_average(fills, outcome.fills, 21)));
 }
@@ -221,15 +234,49 @@ static void cancels(void)
     outcome = send(&copy, entry(TUMGHAVI_CANCEL, 12, 0, 0, 0));
     EXPECT(outcome.kind == TUMGHAVI_ENDED && outcome.cause == TUMGHAVI_BY_CANCEL && outcome.number == 0 && outcome.fills == 1 && outcome.units == 0 && outcome.deadline == 0);
     EXPECT(fills[0].number == 9 && fills[0].order == 13 && tumghavi_fill_rank(&fills[0]) == 'L' && fills[0].units == 5);
-    EXPECT(tumghavi_fill_is_legs(&fills[0]) && tumghavi_fill_price(&fills[0]) == 100);
+    EXPECT(tumghavi_fill_is_legs(&fills[0]) && tumghavi_fill_price(&fills[0]) == 100 && has_prices(&fills[0], 220, 120));
     counts = tumghavi_counts(&copy);
     EXPECT(counts.orders == 0 && counts.responses == 0);
+}
+
+static tumghavi_outcome place(tumghavi_copy *copy, uint32_t id, uint8_t side, uint32_t units, int32_t price)
+{
+    tumghavi_message message = entry(TUMGHAVI_ORDER, id, side, units, price);
+    message.wish_or_leg = 0;
+    return send(copy, message);
+}
+
+/* Sellers take a buyer inside the legs, then the legs, and a buyer once a leg has no bid; and a count that no record has is read. */
+static void leg_prices(void)
+{
+    tumghavi_opening opening = good_opening();
+    tumghavi_fill fill;
+    tumghavi_copy copy;
+    size_t leg;
+    opening.first_number = 1;
+    EXPECT(tumghavi_open(&copy, &opening) == 0);
+    EXPECT(is_noted(send(&copy, quote(0, 220, 240))));
+    EXPECT(is_noted(send(&copy, quote(1, 110, 120))));
+    EXPECT(place(&copy, 11, TUMGHAVI_BUY, 40, 107).fills == 0);
+    EXPECT(place(&copy, 12, TUMGHAVI_SELL, 30, 107).fills == 1);
+    EXPECT(tumghavi_fill_contra(&fills[0]) == 11 && tumghavi_fill_price(&fills[0]) == 107 && has_prices(&fills[0], 220, 113));
+    EXPECT(place(&copy, 13, TUMGHAVI_SELL, 60, 100).fills == 2);
+    EXPECT(tumghavi_fill_contra(&fills[0]) == 11 && has_prices(&fills[0], 220, 113));
+    EXPECT(tumghavi_fill_is_legs(&fills[1]) && tumghavi_fill_price(&fills[1]) == 100 && has_prices(&fills[1], 220, 120));
+    EXPECT(place(&copy, 14, TUMGHAVI_BUY, 5, 107).fills == 0);
+    EXPECT(place(&copy, 15, TUMGHAVI_SELL, 5, 107).fills == 1);
+    EXPECT(tumghavi_fill_contra(&fills[0]) == 14 && has_no_prices(&fills[0]));
+
+    memset(&fill, 9, sizeof fill);
+    EXPECT(tumghavi_fill_leg_count(&fill) == 4);
+    for (leg = 0; leg < 6; leg++)
+        EXPECT(tumghavi_fill_leg_price(&fill, leg) == (leg < 4 ? fill.leg_prices[leg] : 0));
 }
 
 /* A record of an order, at a biased price. */
 static tumghavi_fill fill_of(uint64_t order, uint64_t price, uint64_t units)
 {
-    tumghavi_fill fill = {4, 0, 4, 10, 0, 0};
+    tumghavi_fill fill = {4, 0, 4, 10, 0, 0, 0, {0}};
     fill.order = order;
     fill.price = price;
     fill.units = units;
@@ -253,9 +300,9 @@ static void averages(void)
     EXPECT(is_none(tumghavi_average(list, 5, 6)));
     EXPECT(is_average(tumghavi_average(list, 4, UINT32_MAX), (int64_t)(most - zero), 0));
     EXPECT(is_average(tumghavi_average(list, 5, UINT32_MAX), (int64_t)(most - zero) - 1, UINT32_MAX));
-    EXPECT(is_average(tumghavi_average_in(&list[0].number, 12, SIZE_MAX, 8), -4, 1));
-    EXPECT(is_average(tumghavi_average_in(&list[0].number, 11, 2, 8), -3, 0));
-    EXPECT(is_none(tumghavi_average_in(&list[0].number, 5, 1, 8)));
+    EXPECT(is_average(tumghavi_average_in(&list[0].number, 22, SIZE_MAX, 8), -4, 1));
+    EXPECT(is_average(tumghavi_average_in(&list[0].number, 21, 2, 8), -3, 0));
+    EXPECT(is_none(tumghavi_average_in(&list[0].number, 10, 1, 8)));
     EXPECT(is_none(tumghavi_average_in(&list[0].number, 0, SIZE_MAX, 0)));
 }
 
@@ -328,6 +375,7 @@ int main(void)
     openings();
     outcomes();
     cancels();
+    leg_prices();
     averages();
     records();
     forms();

@@ -6,11 +6,11 @@ use common::{fields, message};
 use second::execution::FillList;
 use second::gen::random::Random;
 use second::gen::PROFILES;
-use second::print::fill_lines;
+use second::print::{average_lines, fill_words, leg_words};
 use second::strategy::Leg;
 use second::tape::{Header, Record, Tape};
 use second::{engine, execution};
-use tumghavi::{Cause, Engine, Fill, Message, Opening, Outcome, Refusal};
+use tumghavi::{Cause, Contra, Engine, Fill, Message, Opening, Outcome, Refusal};
 
 /// What is sent to an engine, as bytes.
 struct Session {
@@ -95,11 +95,13 @@ fn cause_of(cause: engine::Cause) -> Cause {
     }
 }
 
-/// The second program's answer to a record, in the library's words, and the lines of its fills and their averages.
+/// The second program's answer to a record, in the library's words, and the lines of its fills, their leg prices and their averages.
 fn expected(plain: &mut engine::Engine, record: &Record, fills: &mut [execution::Fill]) -> (Outcome, String) {
     let Some(message) = record.message() else { return (Outcome::Refused(Refusal::new(61)), String::new()) };
     let outcome = plain.apply(&message, fills);
-    let lines = fill_lines(&fills[..outcome.fill_count()]);
+    let fills = &fills[..outcome.fill_count()];
+    let records = fills.iter().map(|fill| format!("{}\nlegs {}\n", fill_words(fill), leg_words(fill)));
+    let lines = records.collect::<String>() + &average_lines(fills);
     let outcome = match outcome {
         engine::Outcome::Noted { fills } => Outcome::Noted { fills },
         engine::Outcome::Placed { units, fills } => Outcome::Placed { units: units.into(), fills },
@@ -111,7 +113,13 @@ fn expected(plain: &mut engine::Engine, record: &Record, fills: &mut [execution:
     (outcome, lines)
 }
 
-/// The same lines, of the library's records and averages.
+/// A record's leg prices, or none.
+fn words(fill: &Fill) -> String {
+    let joined = |prices: &[u64]| prices.iter().map(u64::to_string).collect::<Vec<String>>().join(" ");
+    fill.leg_prices().map_or("none".to_string(), joined)
+}
+
+/// The same lines, of the library's records, leg prices and averages.
 fn lines(outcome: &Outcome, list: &[Fill]) -> String {
     let fills = &list[..outcome.fills()];
     let mut orders: Vec<u32> = Vec::new();
@@ -121,7 +129,7 @@ fn lines(outcome: &Outcome, list: &[Fill]) -> String {
         }
     }
     let averages = orders.iter().map(|&order| format!("average {order} {}\n", outcome.average(list, order)));
-    fills.iter().map(|fill| format!("{fill}\n")).chain(averages).collect()
+    fills.iter().map(|fill| format!("{fill}\nlegs {}\n", words(fill))).chain(averages).collect()
 }
 
 /// A list in which every place shows whether it was written.
@@ -135,12 +143,12 @@ fn keeps(before: (&Engine, &[Fill]), after: (&Engine, &[Fill]), outcome: Outcome
     untouched && (!matches!(outcome, Outcome::Refused(_)) || before == after)
 }
 
-/// Outcomes, records, averages and open counts are the second program's, from a message, from a record's fields and from its bytes.
+/// Outcomes, records, averages, leg prices and open counts are the second program's, from a message, from a record's fields and from its bytes.
 #[test]
 fn message_by_message() {
     let mut fills = vec![execution::Fill::BLANK; FillList::LEAST_PLACES];
     let [mut list, mut list_of_fields, mut list_of_bytes] = [0; 3].map(|_| marked(Fill::LEAST_PLACES));
-    let (mut messages, mut reduced, mut ended_by_cancel) = (0, 0, 0);
+    let (mut messages, mut reduced, mut ended_by_cancel, mut with_entries, mut unpriced) = (0, 0, 0, 0, 0);
     for session in sessions() {
         let Opened::Both(mut plain, mut proved) = session.open() else { continue };
         let (mut of_fields, mut of_bytes) = (proved.clone(), proved.clone());
@@ -159,12 +167,17 @@ fn message_by_message() {
             assert_eq!(proved.open_orders(), plain.book().orders().count(), "{what}");
             assert_eq!(proved.open_responses(), plain.book().responses().count(), "{what}");
             messages += 1;
+            for fill in list[..outcome.fills()].iter().filter(|fill| fill.contra() != Contra::Legs) {
+                with_entries += 1;
+                unpriced += usize::from(fill.leg_prices().is_none());
+            }
             reduced += usize::from(record.kind == 8 && matches!(outcome, Outcome::Noted { .. }));
             ended_by_cancel += usize::from(matches!(outcome, Outcome::Ended { cause: Cause::Cancel, .. }));
         }
     }
     assert!(messages > 100_000, "{messages}");
     assert!(reduced > 1_000 && ended_by_cancel > 100, "{reduced} and {ended_by_cancel}");
+    assert!(unpriced > 5_000 && with_entries - unpriced > 5_000, "{unpriced} of {with_entries}");
 }
 
 /// A copy that is saved after a random message and brought back goes on as the one that was not.

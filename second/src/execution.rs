@@ -1,6 +1,8 @@
-//! "Execution": one turn of an order against what is open to it.
+//! "Execution": one turn of an order against what is open to it. Each record carries its leg prices
+//! (M-106).
 
 use crate::book::{Account, Book, Entry, Standing};
+use crate::legprices::{leg_prices, prices_taken, LegPrices};
 use crate::market::{Derived, Market};
 use crate::strategy::{Cents, Side, Strategy};
 
@@ -48,6 +50,8 @@ pub struct Fill {
     pub contra: Contra,
     pub price: Cents,
     pub units: u32,
+    /// `None` says "no leg prices".
+    pub leg_prices: Option<LegPrices>,
 }
 
 impl Fill {
@@ -59,6 +63,7 @@ impl Fill {
         contra: Contra::Legs,
         price: 0,
         units: 0,
+        leg_prices: None,
     };
 }
 
@@ -288,8 +293,8 @@ impl Turn<'_> {
         let order = self.order();
         let (side, units) = (order.side, order.units.min(open));
         if units > 0 {
-            self.market.take(self.strategy, side, units);
             self.record(rank, Contra::Legs, price, units, fills);
+            self.market.take(self.strategy, side, units);
         }
         if rank == Rank::L {
             self.mode.lower_rank_l(price, units);
@@ -368,6 +373,8 @@ impl Turn<'_> {
         }
     }
 
+    /// Writes a record, before the legs give what they do for it: its leg prices are of the quotes
+    /// "as they stood just before the fill".
     fn record(
         &mut self,
         rank: Rank,
@@ -376,6 +383,10 @@ impl Turn<'_> {
         units: u32,
         fills: &mut FillList,
     ) {
+        let leg_prices = match contra {
+            Contra::Legs => Some(prices_taken(self.strategy, self.market, self.order().side)),
+            Contra::Entry(_) => leg_prices(self.strategy, self.market, price),
+        };
         let order = self.book.entry_mut(self.at);
         order.units -= units;
         fills.push(Fill {
@@ -385,6 +396,7 @@ impl Turn<'_> {
             contra,
             price,
             units,
+            leg_prices,
         });
     }
 }

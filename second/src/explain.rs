@@ -1,6 +1,6 @@
-//! A tape told message by message: what each was, its outcome, the turns with what was open and
-//! how it was shared, the averages of the orders that executed, what a cancel or a reduce did, and
-//! why a message was turned back.
+//! A tape told message by message: what each was, its outcome, the turns with what was open, how it
+//! was shared and the leg prices of each fill, the averages of the orders that executed, what a
+//! cancel or a reduce did, and why a message was turned back.
 
 use crate::average::{average, averages};
 use crate::book::{Account, Entry, Standing};
@@ -622,8 +622,12 @@ impl Watch for Turns {
                 Contra::Legs => "the legs".to_string(),
                 Contra::Entry(id) => id.to_string(),
             };
+            let legs = match fill.leg_prices {
+                Some(prices) => format!("leg prices {prices}"),
+                None => "no leg prices".to_string(),
+            };
             self.text += &format!(
-                "    fill: {} units at {} with {contra}, rank {}\n",
+                "    fill: {} units at {} with {contra}, rank {}, {legs}\n",
                 fill.units,
                 fill.price,
                 fill.rank.letter()

@@ -1,5 +1,6 @@
 //! Random tapes, the same for the same profile and seed. Each profile leans on some of the rules.
 
+mod legprices;
 mod legsize;
 pub mod random;
 mod reduce;
@@ -28,7 +29,7 @@ const fn profile(
     }
 }
 
-pub const PROFILES: [Profile; 31] = [
+pub const PROFILES: [Profile; 32] = [
     profile("auction", "auctions, one after another", sessions::auction),
     profile("badkind", "a message of no kind: 61", sessions::bad_kind),
     profile(
@@ -74,6 +75,11 @@ pub const PROFILES: [Profile; 31] = [
         "layout",
         "gaps, offsets, section order, unused fields",
         tapes::layout,
+    ),
+    profile(
+        "legprices",
+        "fills with leg prices and without",
+        legprices::legprices,
     ),
     profile(
         "legsize",

@@ -3,9 +3,9 @@
 //! The modules follow the document: [`strategy`] (Strategy and series, with M-104), [`market`]
 //! (Prices), [`book`] and [`engine`] (Order and auction life, Where a message is turned back, with
 //! M-105), [`execution`] (Execution, with M-103), [`tape`] and [`print`] (Tape); [`form`] is the
-//! written form of a tape (M-100), [`average`] an executed order's average price (M-102), and
-//! [`live`] runs a session that never has to be a tape. Nothing here reads or writes anything but
-//! its arguments; the binary does that.
+//! written form of a tape (M-100), [`average`] an executed order's average price (M-102),
+//! [`legprices`] the price of each leg in a fill (M-106), and [`live`] runs a session that never has
+//! to be a tape. Nothing here reads or writes anything but its arguments; the binary does that.
 
 pub mod average;
 pub mod book;
@@ -14,6 +14,7 @@ pub mod execution;
 pub mod explain;
 pub mod form;
 pub mod gen;
+pub mod legprices;
 pub mod live;
 pub mod market;
 pub mod message;

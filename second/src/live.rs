@@ -3,7 +3,7 @@
 
 use crate::engine::{Engine, Outcome};
 use crate::execution::{Fill, FillList};
-use crate::print::fill_lines;
+use crate::print::{average_lines, fill_words, leg_words};
 use crate::strategy::{Leg, Strategy};
 use crate::tape::{Header, Misfit, Record, Tape};
 use crate::Refusal;
@@ -90,7 +90,14 @@ fn answer(engine: &mut Engine, record: &Record, fills: &mut [Fill]) -> String {
         return refused_line(61);
     };
     let outcome = engine.apply(&message, fills);
-    outcome_line(&outcome) + &fill_lines(&fills[..outcome.fill_count()])
+    let fills = &fills[..outcome.fill_count()];
+    let lines: String = fills.iter().map(fill_lines).collect();
+    outcome_line(&outcome) + &lines + &average_lines(fills)
+}
+
+/// A fill as tapeprint has it, and its leg prices.
+fn fill_lines(fill: &Fill) -> String {
+    format!("{}\nlegs {}\n", fill_words(fill), leg_words(fill))
 }
 
 fn refused_line(number: Refusal) -> String {

@@ -6,7 +6,7 @@ use compare::{compare, Twin};
 use second::explain::explain;
 use second::gen::{gen, Profile, PROFILES};
 use second::live::{live, live_input};
-use second::print::{tapeform, tapeprint};
+use second::print::{tapeform, tapelegs, tapeprint};
 use second::tape::{Misfit, Tape};
 use second::text::{dump, make};
 use std::ffi::{OsStr, OsString};
@@ -21,6 +21,7 @@ usage: second COMMAND
   dump [TAPE]         the text of a tape
   explain [TAPE]      a tape told message by message
   form [TAPE]         the written form of a tape
+  legs [TAPE]         the fills of a tape with the price of each leg
   gen PROFILE SEED    a random tape
   gen --list          the profiles
   live                answers the opening and each message on standard input at once
@@ -59,6 +60,7 @@ fn run(arguments: &[OsString]) -> Result<Vec<u8>, String> {
             .map_err(refused_60),
         Some("explain") => Ok(explain(&read_tape(rest)?).into_bytes()),
         Some("form") => Ok(tapeform(&read_tape(rest)?)),
+        Some("legs") => Ok(tapelegs(&read_tape(rest)?).into_bytes()),
         Some("gen") => gen_command(rest),
         Some("live") => live_command(rest).map(|()| Vec::new()),
         Some("compare") => compare_command(rest),

@@ -13,7 +13,7 @@ pub struct Quote<T> {
 impl<T: Copy> Quote<T> {
     /// "The derived ask uses asks of B legs and bids of S legs; the derived bid the opposite
     /// sides." An order to buy meets the derived ask, an order to sell the derived bid.
-    fn used_by(&self, order: Side, leg: &OpenLeg) -> T {
+    pub fn used_by(&self, order: Side, leg: &OpenLeg) -> T {
         if leg.side == order {
             self.ask
         } else {
@@ -100,7 +100,7 @@ pub struct Market {
 }
 
 /// "Buying a unit costs the sum of ratio × price over B legs less the same over S legs."
-fn part_of_net(leg: &OpenLeg, price: Cents) -> Cents {
+pub fn part_of_net(leg: &OpenLeg, price: Cents) -> Cents {
     let amount = Cents::from(leg.ratio) * price;
     match leg.side {
         Side::Buy => amount,

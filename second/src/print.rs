@@ -1,4 +1,4 @@
-//! Running a tape through the engine, and what tapeprint and tapeform print of it.
+//! Running a tape through the engine, and what tapeprint, tapeform and tapelegs print of it.
 
 use crate::average::{averages, Average};
 use crate::engine::{Engine, Outcome};
@@ -37,9 +37,9 @@ pub fn contra_number(contra: Contra) -> u32 {
 }
 
 /// A fill's six values.
-fn fill_line(fill: &Fill) -> String {
+pub fn fill_words(fill: &Fill) -> String {
     format!(
-        "{} {} {} {} {} {}\n",
+        "{} {} {} {} {} {}",
         fill.number,
         fill.order,
         fill.rank.letter(),
@@ -54,11 +54,15 @@ fn average_line(average: &Average) -> String {
     format!("average {} {quotient} {remainder}\n", average.order)
 }
 
-/// The lines of a message's fills: the fills, and then the averages of their orders.
-pub fn fill_lines(fills: &[Fill]) -> String {
-    let averages = averages(fills);
-    let lines = fills.iter().map(fill_line);
-    lines.chain(averages.iter().map(average_line)).collect()
+/// The averages of a message's fills.
+pub fn average_lines(fills: &[Fill]) -> String {
+    averages(fills).iter().map(average_line).collect()
+}
+
+/// A fill's price of each leg (M-106). tapeprint's lines do not have them.
+pub fn leg_words(fill: &Fill) -> String {
+    let prices = fill.leg_prices.map(|prices| prices.to_string());
+    prices.unwrap_or("none".to_string())
 }
 
 /// "The last line counts open orders and responses."
@@ -77,9 +81,12 @@ fn refused_line(number: Refusal) -> String {
 pub fn tapeprint(bytes: &[u8]) -> String {
     let mut text = format!("{TITLE}\n");
     let run = run_tape(bytes, |position, outcome, fills| {
-        text.push_str(&fill_lines(fills));
+        // Writing to a string does not fail.
+        for fill in fills {
+            let _ = writeln!(text, "{}", fill_words(fill));
+        }
+        text.push_str(&average_lines(fills));
         if let Outcome::Refused { number } = outcome {
-            // Writing to a string does not fail.
             let _ = writeln!(text, "refused {position} {number}");
         }
     });
@@ -92,4 +99,16 @@ pub fn tapeprint(bytes: &[u8]) -> String {
 /// What tapeform prints of a tape: the bytes of its form.
 pub fn tapeform(bytes: &[u8]) -> Vec<u8> {
     form(bytes).unwrap_or_else(|number| refused_line(number).into_bytes())
+}
+
+/// What tapelegs prints of a tape: a line for each fill, as tapeprint has it, with the price of each
+/// leg. A refused tape has no fills.
+pub fn tapelegs(bytes: &[u8]) -> String {
+    let mut text = String::new();
+    let _ = run_tape(bytes, |_, _, fills| {
+        for fill in fills {
+            let _ = writeln!(text, "{} | {}", fill_words(fill), leg_words(fill));
+        }
+    });
+    text
 }

@@ -294,6 +294,7 @@ fn fill(order: u32, rank: Rank, contra: u32, price: Cents, units: u32) -> Fill {
         },
         price,
         units,
+        leg_prices: None,
     }
 }
 

@@ -24,6 +24,7 @@ fn fill(order: u32, contra: u32, price: Cents, units: u32) -> Fill {
         contra: Contra::Entry(contra),
         price,
         units,
+        leg_prices: None,
     }
 }
 
@@ -399,13 +400,19 @@ fn tapeprint_has_the_averages_of_its_fills() {
     seen.is_enough();
 }
 
+/// Without the lines of leg prices, which tapeprint does not have.
+fn without_legs(text: &str) -> String {
+    let lines = text.lines().filter(|line| !line.starts_with("legs "));
+    lines.map(|line| format!("{line}\n")).collect()
+}
+
 #[test]
 fn live_has_the_averages_of_its_fills() {
     let mut seen = Seen::default();
     for (name, tape) in random_tapes() {
         let mut answers = Vec::new();
         live(&live_input(&tape).unwrap_or(tape)[..], &mut answers).unwrap();
-        seen.take(&name, &String::from_utf8(answers).unwrap());
+        seen.take(&name, &without_legs(&String::from_utf8(answers).unwrap()));
     }
     assert_eq!(seen.texts, 30 * PROFILES.len());
     seen.is_enough();

@@ -36,13 +36,17 @@ fn the_own_case_goes_through_all_commands() {
     let expected = "number order rank contra price units\n4 8 L 0 100 10\n4 8 R 7 100 5\n\
                     average 8 100 0\nrefused 5 50\nopen 1 answers 0\n";
     assert_eq!(String::from_utf8(printed).unwrap(), expected);
+    let legs = output(&["legs"], &tape);
+    let expected = "4 8 L 0 100 10 | 220 120\n4 8 R 7 100 5 | none\n";
+    assert_eq!(String::from_utf8(legs).unwrap(), expected);
     // It is made in its form.
     assert_eq!(output(&["form"], &tape), tape);
     let dumped = output(&["dump"], &tape);
     assert_eq!(output(&["make"], &dumped), tape);
     let told = String::from_utf8(output(&["explain"], &tape)).unwrap();
     assert!(told.contains("refused 50: no open order 9 of participant 1"));
-    assert!(told.contains("fill: 5 units at 100 with 7, rank R"));
+    assert!(told.contains("fill: 10 units at 100 with the legs, rank L, leg prices 220 120\n"));
+    assert!(told.contains("fill: 5 units at 100 with 7, rank R, no leg prices\n"));
     assert!(told.contains("average of order 8: a sum of 1500 over 15 units is 100 remainder 0"));
 }
 
@@ -69,7 +73,9 @@ fn live_answers_at_once() {
             &[
                 "placed 0 2",
                 "4 8 L 0 100 10",
+                "legs 220 120",
                 "4 8 R 7 100 5",
+                "legs none",
                 "average 8 100 0",
             ],
         ),
@@ -125,6 +131,7 @@ fn gen_gives_tapes_and_lists_its_profiles() {
 fn a_refused_tape_is_an_answer_and_not_a_failure() {
     assert_eq!(output(&["tapeprint"], b""), b"refused 0 60\n");
     assert_eq!(output(&["form"], b""), b"refused 0 60\n");
+    assert_eq!(output(&["legs"], b""), b"");
     assert_eq!(output(&["form"], &[0; 65_536]), b"refused 0 60\n");
     let wrong_kind = second::gen::gen("badkind", 1).unwrap();
     assert_eq!(output(&["form"], &wrong_kind), b"refused 0 61\n");
@@ -154,6 +161,7 @@ fn what_is_wrong_stands_on_standard_error() {
     fails(&["dump", env!("CARGO_MANIFEST_DIR")], b"", "cannot read");
     fails(&["explain", "a", "b"], b"", "one argument too many: b");
     fails(&["form", "a", "b"], b"", "one argument too many: b");
+    fails(&["legs", "a", "b"], b"", "one argument too many: b");
     fails(
         &["dump"],
         b"short",

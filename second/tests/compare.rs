@@ -112,6 +112,29 @@ fn the_first_difference_of_a_live_session_is_told() {
     assert!(error.contains("second: \"ended legs "), "{error}");
 }
 
+/// Leg prices where there are none, other ones, and none at all.
+#[test]
+fn the_leg_prices_of_a_live_session_are_compared() {
+    let wrong = [
+        (
+            "some",
+            "s/^legs none$/legs 1 1/",
+            "COMMAND: \"legs 1 1\\n\"\n  second: \"legs none\\n\"\n",
+        ),
+        (
+            "none",
+            "s/^legs [0-9].*$/legs none/",
+            "COMMAND: \"legs none\\n\"\n  second: \"legs ",
+        ),
+        ("no-lines", "/^legs /d", "\n  second: \"legs "),
+    ];
+    for (name, change, what) in wrong {
+        let lines = format!(r#""$SECOND" live | sed '{change}'"#);
+        let command = script(&format!("legs-{name}"), &lines);
+        fails(&["--live"], &command, &["legprices", "1", "5"], what);
+    }
+}
+
 /// A form that is the tape itself, one that is short, one that is long, and a wrong number.
 #[test]
 fn the_first_byte_of_a_form_that_differs_is_told() {

@@ -384,7 +384,8 @@ fn explain_says_how_many_units_are_l() {
         says("open: legs at 130, 8 units, 2 of rank L and 6 of rank T"),
         1
     );
-    assert_eq!(says("fill: 5 units at 130 with the legs, rank T"), 1);
+    let fill = "fill: 5 units at 130 with the legs, rank T, leg prices 240 110";
+    assert_eq!(says(fill), 1);
     // Outside an auction there is no starting price.
     let outside = explain(&spread().tape(&all(&[&market(), &[buy(1, 1, 130)]])));
     assert!(outside.contains("open: legs at 130, 10 units, rank L\n"));
@@ -767,6 +768,7 @@ fn fill(order: u32, rank: Rank, price: Cents, units: u32) -> Fill {
         contra,
         price,
         units,
+        leg_prices: None,
     }
 }
 

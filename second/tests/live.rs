@@ -39,23 +39,25 @@ fn every_outcome() -> (Vec<Record>, Vec<&'static str>) {
         // The ninth that is accepted: no record that is turned back takes a number.
         (
             clock(1_500),
-            "ended time 2\n9 2 C 4 119 3\n9 2 L 0 130 2\naverage 2 123 2",
+            "ended time 2\n9 2 C 4 119 3\nlegs 229 110\n9 2 L 0 130 2\nlegs 240 110\n\
+             average 2 123 2",
         ),
         (buy(5, 5, 125).wish().at(1_600), "begun 2100"),
         (sell(8, 2, 125).non_customer().at(1_600), "placed 2 0"),
         (
             buy(6, 1, 126).at(1_600),
-            "ended order 1\n12 5 N 8 125 2\naverage 5 125 0",
+            "ended order 1\n12 5 N 8 125 2\nlegs 235 110\naverage 5 125 0",
         ),
         (buy(7, 2, 128).wish().at(1_700), "begun 2200"),
         (sell(10, 1, 128).at(1_700), "placed 1 0"),
         (
             local(0, 300, 4, 310, 4).at(1_800),
-            "ended legs 1\n15 7 C 10 128 1\naverage 7 128 0",
+            "ended legs 1\n15 7 C 10 128 1\nlegs none\naverage 7 128 0",
         ),
         (
             sell(11, 6, 100).at(1_800),
-            "placed 0 3\n16 11 L 0 175 4\n16 11 R 7 128 1\n16 11 R 6 126 1\naverage 11 159 0",
+            "placed 0 3\n16 11 L 0 175 4\nlegs 300 125\n16 11 R 7 128 1\nlegs none\n\
+             16 11 R 6 126 1\nlegs none\naverage 11 159 0",
         ),
         (cancel(1).at(1_800), "noted 0"),
         (buy(12, 4, 190).wish().at(1_900), "begun 2400"),
@@ -65,7 +67,7 @@ fn every_outcome() -> (Vec<Record>, Vec<&'static str>) {
         (sell(14, 1, 150).response().at(1_900), "noted 0"),
         (
             cancel(12).at(1_900),
-            "ended cancel 1\n22 13 R 5 125 2\naverage 13 125 0",
+            "ended cancel 1\n22 13 R 5 125 2\nlegs none\naverage 13 125 0",
         ),
     ];
     told.into_iter().unzip()
@@ -98,7 +100,9 @@ fn the_own_case_is_answered() {
         "placed 10 0",
         "placed 0 2",
         "4 8 L 0 100 10",
+        "legs 220 120",
         "4 8 R 7 100 5",
+        "legs none",
         "average 8 100 0",
         "refused 50",
     ];
@@ -111,12 +115,12 @@ fn a_message_may_have_many_fills() {
     let sells: Vec<Record> = (1..=20).map(|id| sell(id, 1, 100 + id as i32)).collect();
     let answers = answers(&spread().tape(&all(&[&sells, &[buy(99, 100, 130)]])));
     let lines: Vec<&str> = answers.lines().collect();
-    assert_eq!(lines.len(), 1 + 20 + 1 + 20 + 1);
+    assert_eq!(lines.len(), 1 + 20 + 1 + 20 * 2 + 1);
     assert_eq!(lines[21], "placed 80 20");
-    assert_eq!(lines[22], "21 99 R 1 101 1");
-    assert_eq!(lines[41], "21 99 R 20 120 1");
+    assert_eq!(lines[22..24], ["21 99 R 1 101 1", "legs none"]);
+    assert_eq!(lines[60..62], ["21 99 R 20 120 1", "legs none"]);
     // A sum of 2,210 over 20 units.
-    assert_eq!(lines[42], "average 99 110 10");
+    assert_eq!(lines[62], "average 99 110 10");
 }
 
 // The opening.
@@ -261,6 +265,7 @@ fn printed(answers: &str) -> Vec<String> {
     for line in answers.lines().skip(1) {
         let fill = line.starts_with(|c: char| c.is_ascii_digit());
         match line.strip_prefix("refused ") {
+            _ if line.starts_with("legs ") => {}
             _ if fill || line.starts_with("average ") => lines.push(line.to_string()),
             Some(number) => {
                 position += 1;
@@ -319,6 +324,7 @@ fn fill_counts_are_those_of_the_lines() {
                 };
                 let mut count = 0;
                 while lines.next_if(|l| l.split(' ').count() == 6).is_some() {
+                    assert!(lines.next().is_some_and(|l| l.starts_with("legs ")));
                     count += 1;
                 }
                 assert_eq!(said, count.to_string(), "{} {seed}", profile.name);

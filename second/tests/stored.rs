@@ -1,7 +1,7 @@
-//! Stored sessions: a tape prints what its .out file holds, and its form what its .form file holds,
-//! byte for byte.
+//! Stored sessions: a tape prints what its .out file holds, its form is what its .form file holds,
+//! and its fills with their leg prices are what its .legs file holds, byte for byte.
 
-use second::print::{tapeform, tapeprint};
+use second::print::{tapeform, tapelegs, tapeprint};
 use std::collections::BTreeSet;
 use std::fs;
 use std::path::{Path, PathBuf};
@@ -39,6 +39,16 @@ fn stored_tapes_have_their_stored_forms() {
     for form in forms {
         let expected = fs::read(&form).unwrap();
         assert_eq!(tapeform(&tape_of(&form)), expected, "{}", form.display());
+    }
+}
+
+#[test]
+fn stored_tapes_have_their_stored_leg_prices() {
+    let all = stored("legs");
+    assert_eq!(all.len(), 68);
+    for legs in all {
+        let expected = fs::read_to_string(&legs).unwrap();
+        assert_eq!(tapelegs(&tape_of(&legs)), expected, "{}", legs.display());
     }
 }
 

@@ -2,12 +2,12 @@
 use mathlib.Core.Path.{_≡_, refl, ap, ap₂, sym, _∙_, subst}
 use mathlib.Core.Bool.{Bool, true, false}
 use mathlib.Core.List.{List, [], _∷_, _++_, map}
-use Prim.Native.Nat.{ℕ, _+_, _*_, _/_, _≤_, min}
+use Prim.Native.Nat.{ℕ, zero, suc, _+_, _-_, _*_, _/_, _≤_, min}
 use native.Mathlib.Decide.{ℕ-discrete}
 use native.Mathlib.Omega.{arith}
 use borrow.Author.Tests.{ne-eqb}
 use lib.Dec.{eqb}
-use lib.ListN.{length, take, drop}
+use lib.ListN.{length, getD, take, drop}
 use Rattle.rules.specs.Basics.{pick, All}
 use Rattle.rules.specs.Turn as U
 use Rattle.rules.specs.Outcome as O
@@ -25,26 +25,30 @@ use Rattle.rules.specs.Bound.{RecordsFit}
 use Rattle.rules.specs.Arrival.{noArrivals, AllStand, RecordsByArrivalOfRules, RecordsAreFixed}
 use Rattle.rules.proofs.RunLaws.{opened, demand-3-of-rules}
 use Rattle.rules.specs.LegsKept.{LegsKeptOfRules}
+use Rattle.rules.specs.LegPrices.{LegPrices}
+use Rattle.rules.specs.LeastPrices.{LegPricesAreLeastOfRules}
 use Rattle.rules.proofs.BoundLaws.{records-fit}
 use Rattle.rules.proofs.KeptLaws.{legs-kept-of-rules}
+use Rattle.rules.proofs.LeastLaws.{leg-prices-are-least-of-rules}
 use Rattle.rules.proofs.AverageLaws.{averages-are-exact-of-rules}
 use Rattle.rules.proofs.ArrivalLaws.{records-by-arrival-of-rules, records-are-fixed}
 use Rattle.types.specs.declared.Opening.{Opening}
 use Rattle.types.specs.declared.Fill.{Fill}
-use Rattle.types.specs.View.{openingOf, rankOf, contraOf, fillOf}
+use Rattle.types.specs.View.{upto, openingOf, rankOf, contraOf, fillOf, legPricesOf, pricesOf, heldLegs, heldPrices}
 use Rattle.types.proofs.TableLaws.{from-length}
 use Rattle.state.specs.Layout.{isSized}
 use Rattle.state.specs.View.{openCount, entryAt, stateOf}
-use Rattle.records.specs.Records.{width}
+use Rattle.records.specs.Records.{width, pricesIn}
+use Rattle.records.proofs.RecordLaws.{held-back}
 use Rattle.opening.specs.Opens.{openedBy, Opens}
-use Rattle.engine.specs.Steps.{recordsIn, placesIn}
+use Rattle.engine.specs.Steps.{recordsIn, allPricesIn, placesIn}
 use Rattle.engine.proofs.StepLaws.{passes}
 use Rattle.average.specs.Sums.{firstRecords}
 use Rattle.text.proofs.FillLaws.{records-known}
-use Rattle.fills.specs.Fills.{storedRank, storedContra, storedFill, written}
+use Rattle.fills.specs.Fills.{storedRank, storedContra, storedFill, storedFills}
 use Rattle.text.specs.Text.{linesText}
 use Rattle.session.specs.Lines.{sent, tapeText}
-use Rattle.demand.specs.Engine.{Taken, byStep, byApply, longsAfter, wordsAfter, listAfter, sentOf, fillCount, outcomeBy, toldBy, Run, over, then, sents, told, saidBy, endOf, Copy, Demand3, RecordsByArrival, Asked, AllAsked, AveragesAreExact, LegsKept, linesBy, textBy, Alike, ListIsFixed}
+use Rattle.demand.specs.Engine.{Taken, byStep, byApply, longsAfter, wordsAfter, listAfter, sentOf, fillCount, outcomeBy, toldBy, pricesBy, Run, over, then, sents, told, toldPrices, saidBy, endOf, Copy, Demand3, RecordsByArrival, Asked, AllAsked, AveragesAreExact, LegsKept, LegPricesAreLeast, linesBy, textBy, Alike, ListIsFixed}
 
 -- ---- the fill count of an outcome is the number of its records
 
@@ -91,17 +95,37 @@ shown-contra : (c : U.Contra) → contraOf (storedContra c) ≡ c
 shown-contra U.legs = refl
 shown-contra (U.entry i) = refl
 
-shown-fill : (f : U.Fill) → fillOf (storedFill f) ≡ f
-shown-fill f =
+shown-fill : (f : U.Fill) (p : LegPrices) → fillOf (storedFill f p) ≡ f
+shown-fill f p =
     ap₂ (λ (k : U.Rank) (c : U.Contra). record { number = f .number; order = f .order; rank = k; contra = c; price = f .price; units = f .units }) (shown-rank (f .rank)) (shown-contra (f .contra))
 
--- as many records as there are, from the start of a list that they were written into
-first-written : (ys : List Fill) (fs : List U.Fill) → map fillOf (take (length fs) (written ys (map storedFill fs))) ≡ fs
-first-written ys fs = first fs (drop (length (map storedFill fs)) ys)
-  where
-    first : (fs : List U.Fill) (ys : List Fill) → map fillOf (take (length fs) (map storedFill fs ++ ys)) ≡ fs
-    first [] ys = refl
-    first (f ∷ fs) ys = ap₂ (λ (g : U.Fill) (gs : List U.Fill). g ∷ gs) (shown-fill f) (first fs ys)
+-- leg prices that are read back as they were held
+abbrev Held : LegPrices → Type 0
+Held p = legPricesOf (heldLegs p) (heldPrices p) ≡ p
+
+all-held : (xs : List ℕ) (k n : ℕ) → All Held (upto (pricesIn xs) k n)
+unfolding upto
+all-held xs k zero = tt
+all-held xs k (suc n) = (
+  held-back (getD xs (k * width + 6) 0) (getD xs (k * width + 7) 0) (getD xs (k * width + 8) 0) (getD xs (k * width + 9) 0) (getD xs (k * width + 10) 0),
+  all-held xs (k + 1) n,
+)
+
+-- as many records as there are, from the start of a list that they were written into, and the leg prices of each
+first-records : (fs : List U.Fill) (ps : List LegPrices) (ys : List Fill) → length ps ≡ length fs → map fillOf (take (length fs) (storedFills fs ps ++ ys)) ≡ fs
+first-records [] ps ys e = refl
+first-records (f ∷ fs) [] ys e = absurd (omega (arith, e))
+first-records (f ∷ fs) (p ∷ ps) ys e = ap₂ (λ (g : U.Fill) (gs : List U.Fill). g ∷ gs) (shown-fill f p) (first-records fs ps ys (omega (arith, e)))
+
+first-prices : (fs : List U.Fill) (ps : List LegPrices) (ys : List Fill) → length ps ≡ length fs → All Held ps → map pricesOf (take (length fs) (storedFills fs ps ++ ys)) ≡ ps
+first-prices [] [] ys e h = refl
+first-prices [] (p ∷ ps) ys e h = absurd (omega (arith, e))
+first-prices (f ∷ fs) [] ys e h = absurd (omega (arith, e))
+first-prices (f ∷ fs) (p ∷ ps) ys e h = ap₂ (λ (g : LegPrices) (gs : List LegPrices). g ∷ gs) (h .0) (first-prices fs ps ys (omega (arith, e)) (h .1))
+
+-- a list has as many leg prices as records
+as-many : (list : List ℕ) (fs : List U.Fill) (ps : List LegPrices) → allPricesIn list (length fs) ≡ ps → length ps ≡ length fs
+as-many list fs ps e = let n : length (allPricesIn list (length fs)) ≡ length fs - 0 = from-length (pricesIn list) 0 (length fs) in omega (arith, n, ap length e)
 
 -- ---- one message
 
@@ -121,8 +145,18 @@ module _ (longs words : List ℕ) where
   told-here : (a : Taken longs words) → toldBy a ≡ answerTo (stateOf longs words) (sentOf a) .fills
   told-here (byStep a) = listed-here (byStep a)
   told-here (byApply a) =
+      let fs : List U.Fill = answerTo (stateOf longs words) (sentOf (byApply a)) .fills in
+      let ps : List LegPrices = answerTo (stateOf longs words) (sentOf (byApply a)) .prices in
       ap₂ (λ (n : ℕ) (l : List Fill). map fillOf (take n l)) (count-here (byApply a)) (a .kept .list)
-      ∙ first-written (a .fills) (answerTo (stateOf longs words) (sentOf (byApply a)) .fills)
+      ∙ first-records fs ps (drop (length (storedFills fs ps)) (a .fills)) (as-many (a .list′) fs ps (a .kept .prices))
+
+  priced-here : (a : Taken longs words) → pricesBy a ≡ answerTo (stateOf longs words) (sentOf a) .prices
+  priced-here (byStep a) = ap (allPricesIn (a .list′)) (count-here (byStep a) ∙ sym (a .kept .count)) ∙ a .kept .prices
+  priced-here (byApply a) =
+      let fs : List U.Fill = answerTo (stateOf longs words) (sentOf (byApply a)) .fills in
+      let ps : List LegPrices = answerTo (stateOf longs words) (sentOf (byApply a)) .prices in
+      ap₂ (λ (n : ℕ) (l : List Fill). map pricesOf (take n l)) (count-here (byApply a)) (a .kept .list)
+      ∙ first-prices fs ps (drop (length (storedFills fs ps)) (a .fills)) (as-many (a .list′) fs ps (a .kept .prices)) (subst (All Held) (a .kept .prices) (all-held (a .list′) 0 (length fs - 0)))
 
   state-after : (a : Taken longs words) → stateOf (longsAfter a) (wordsAfter a) ≡ answerTo (stateOf longs words) (sentOf a) .state
   state-after (byStep a) = a .kept .state
@@ -172,6 +206,13 @@ told-is (over longs words) = refl
 told-is (then longs words a run) =
     ap₂ (λ (f : List U.Fill) (fs : List (List U.Fill)). f ∷ fs) (told-here longs words a)
     (told-is run ∙ ap (λ (s : State). map (λ y. y .fills) (answers s (sents run))) (state-after longs words a))
+
+priced-is : {longs words : List ℕ} (run : Run longs words) → toldPrices run ≡ map (λ a. a .prices) (answers (stateOf longs words) (sents run))
+unfolding answers
+priced-is (over longs words) = refl
+priced-is (then longs words a run) =
+    ap₂ (λ (p : List LegPrices) (ps : List (List LegPrices)). p ∷ ps) (priced-here longs words a)
+    (priced-is run ∙ ap (λ (s : State). map (λ y. y .prices) (answers s (sents run))) (state-after longs words a))
 
 said-is : {longs words : List ℕ} (run : Run longs words) → saidBy run ≡ map (λ a. a .outcome) (answers (stateOf longs words) (sents run))
 unfolding answers
@@ -235,6 +276,9 @@ module _ (o : Opening) (c : Copy o) where
   told-from : told (c .run) ≡ map (λ a. a .fills) (answers (startOf (openingOf o)) (sents (c .run)))
   told-from = told-is (c .run) ∙ ap (λ (s : State). map (λ a. a .fills) (answers s (sents (c .run)))) (sym start-is)
 
+  priced-from : toldPrices (c .run) ≡ map (λ a. a .prices) (answers (startOf (openingOf o)) (sents (c .run)))
+  priced-from = priced-is (c .run) ∙ ap (λ (s : State). map (λ a. a .prices) (answers s (sents (c .run)))) (sym start-is)
+
   said-from : saidBy (c .run) ≡ map (λ a. a .outcome) (answers (startOf (openingOf o)) (sents (c .run)))
   said-from = said-is (c .run) ∙ ap (λ (s : State). map (λ a. a .outcome) (answers s (sents (c .run)))) (sym start-is)
 
@@ -266,6 +310,10 @@ pub legs-kept : LegsKept
 unfolding LegsKept LegsKeptOfRules
 legs-kept o c p e = legs-kept-of-rules (openingOf o) (startOf (openingOf o)) (started-is o c) (sents (c .run)) p .0 (ap (λ (s : State). s .auction) (sym (end-from o c)) ∙ e)
 
+pub leg-prices-are-least : LegPricesAreLeast
+unfolding LegPricesAreLeast LegPricesAreLeastOfRules
+leg-prices-are-least o c = rw (told-from o c, priced-from o c) (leg-prices-are-least-of-rules (openingOf o) (startOf (openingOf o)) (started-is o c) (sents (c .run)))
+
 only-told : (o : Opening) (c : Copy o) (rss : List (List U.Fill)) → Good (startOf (openingOf o)) (sents (c .run)) rss → AllStand noArrivals (startOf (openingOf o)) (sents (c .run)) rss → rss ≡ told (c .run)
 unfolding RecordsAreFixed
 only-told o c rss g b = records-are-fixed (openingOf o) (startOf (openingOf o)) (started-is o c) (sents (c .run)) rss g b ∙ sym (told-from o c)
@@ -275,6 +323,7 @@ alike o c d h =
     let s : State = startOf (openingOf o) in
     record {
       records = told-from o c ∙ ap (λ (ms : List Sent). map (λ a. a .fills) (answers s ms)) h ∙ sym (told-from o d);
+      prices = priced-from o c ∙ ap (λ (ms : List Sent). map (λ a. a .prices) (answers s ms)) h ∙ sym (priced-from o d);
       outcomes = said-from o c ∙ ap (λ (ms : List Sent). map (λ a. a .outcome) (answers s ms)) h ∙ sym (said-from o d);
       state = end-from o c ∙ ap (after s) h ∙ sym (end-from o d);
       text = text-from o c ∙ ap (λ (ms : List Sent). linesText (titleLine ∷ linesFor 1 s ms)) h ∙ sym (text-from o d);

@@ -1,4 +1,4 @@
--- Demand 3 and M-101 to M-103 about the engine: claims about an opening and a list of messages, each taken in place by `step` or by `apply`.
+-- Demand 3, M-101 to M-103 and M-106 about the engine: claims about an opening and a list of messages, each taken in place by `step` or by `apply`.
 use mathlib.Core.Path.{_≡_}
 use mathlib.Core.List.{List, [], _∷_, _++_, map}
 use Prim.Native.Nat.{ℕ, _+_}
@@ -15,15 +15,17 @@ use Rattle.rules.specs.Demand.{Good}
 use Rattle.rules.specs.Arrival.{noArrivals, AllStand}
 use Rattle.rules.specs.Average.{Says, GoodAverages}
 use Rattle.rules.specs.LegsKept.{readings, KeptSince}
+use Rattle.rules.specs.LegPrices.{LegPrices}
+use Rattle.rules.specs.LeastPrices.{AllPriced}
 use Rattle.types.specs.declared.Opening.{Opening}
 use Rattle.types.specs.declared.Message.{Message}
 use Rattle.types.specs.declared.Fill.{Fill}
 use Rattle.types.specs.declared.Outcome.{Outcome}
-use Rattle.types.specs.View.{openingOf, messageOf, fillOf, outcomeOf}
+use Rattle.types.specs.View.{openingOf, messageOf, fillOf, pricesOf, outcomeOf}
 use Rattle.state.specs.View.{stateOf}
 use Rattle.opening.specs.Opens.{Opens}
 use Rattle.engine.specs.declared.Answer.{Answer}
-use Rattle.engine.specs.Steps.{recordsIn, placesIn, IsStep}
+use Rattle.engine.specs.Steps.{recordsIn, allPricesIn, placesIn, IsStep}
 use Rattle.fills.specs.Fills.{IsApplied}
 use Rattle.average.specs.declared.Average.{Average}
 use Rattle.average.specs.Parts.{averageOf, IsAverage}
@@ -96,12 +98,17 @@ abbrev pub toldBy : {longs words : List ℕ} → Taken longs words → List U.Fi
 toldBy (byStep a) = recordsIn (a .list′) (fillCount (outcomeOf (a .answer .outcome)))
 toldBy (byApply a) = map fillOf (take (fillCount (outcomeOf (a .outcome))) (a .fills′))
 
+-- and the leg prices of each
+abbrev pub pricesBy : {longs words : List ℕ} → Taken longs words → List LegPrices
+pricesBy (byStep a) = allPricesIn (a .list′) (fillCount (outcomeOf (a .answer .outcome)))
+pricesBy (byApply a) = map pricesOf (take (fillCount (outcomeOf (a .outcome))) (a .fills′))
+
 -- messages taken one after another, each with the slices that the one before it left; "nobody else writes the state meanwhile"
 pub data Run : List ℕ → List ℕ → Type 0 where
   over : (longs words : List ℕ) → Run longs words
   then : (longs words : List ℕ) (a : Taken longs words) → Run (longsAfter a) (wordsAfter a) → Run longs words
 
--- what was sent, the records that were told, and the outcomes, message by message
+-- what was sent, the records that were told with their leg prices, and the outcomes, message by message
 abbrev pub sents : {longs words : List ℕ} → Run longs words → List Sent
 sents (over longs words) = []
 sents (then longs words a run) = sentOf a ∷ sents run
@@ -109,6 +116,10 @@ sents (then longs words a run) = sentOf a ∷ sents run
 abbrev pub told : {longs words : List ℕ} → Run longs words → List (List U.Fill)
 told (over longs words) = []
 told (then longs words a run) = toldBy a ∷ told run
+
+abbrev pub toldPrices : {longs words : List ℕ} → Run longs words → List (List LegPrices)
+toldPrices (over longs words) = []
+toldPrices (then longs words a run) = pricesBy a ∷ toldPrices run
 
 abbrev pub saidBy : {longs words : List ℕ} → Run longs words → List O.Outcome
 saidBy (over longs words) = []
@@ -156,6 +167,10 @@ AveragesAreExact = (o : Opening) (c : Copy o) → All GoodAverages (told (c .run
 unfoldable pub LegsKept : Type 0
 LegsKept = (o : Opening) (c : Copy o) (p : Pending) → endOf (c .run) .auction ≡ pending p → KeptSince (p .buy) (readings (startOf (openingOf o)) (sents (c .run)) []) (p .start)
 
+-- M-106: at every turn the leg prices of the engine's records are the least such prices, or none exactly under the three conditions, and those of the legs are the prices taken
+unfoldable pub LegPricesAreLeast : Type 0
+LegPricesAreLeast = (o : Opening) (c : Copy o) → AllPriced (startOf (openingOf o)) (sents (c .run)) (told (c .run)) (toldPrices (c .run))
+
 -- ---- what tapeprint writes of what a copy answers
 
 -- the lines of each answer, from tape position k on, and what is open at the end
@@ -170,6 +185,7 @@ textBy run = linesText (titleLine ∷ linesBy 1 run)
 -- two copies tell the same, record by record and byte by byte, and are left with the same state
 pub record Alike (o : Opening) (c d : Copy o) : Type 0 where
   pub records : told (c .run) ≡ told (d .run)
+  pub prices : toldPrices (c .run) ≡ toldPrices (d .run)
   pub outcomes : saidBy (c .run) ≡ saidBy (d .run)
   pub state : endOf (c .run) ≡ endOf (d .run)
   pub text : textBy (c .run) ≡ textBy (d .run)

@@ -1,5 +1,5 @@
-// Demand 3 and M-101 to M-103, of the engine's own records and state over the whole list of messages: of whatever keeps the contracts of `open`, `step`, `apply` and `average_of`.
-ghost use Rattle.demand.specs.Engine.{Demand3, RecordsByArrival, AveragesAreExact, LegsKept, ListIsFixed};
+// Demand 3, M-101 to M-103 and M-106, of the engine's own records and state over the whole list of messages: of whatever keeps the contracts of `open`, `step`, `apply` and `average_of`.
+ghost use Rattle.demand.specs.Engine.{Demand3, RecordsByArrival, AveragesAreExact, LegsKept, LegPricesAreLeast, ListIsFixed};
 
 // At every order's turn to execute the records are the best way to fill it.
 pub fn demand_3()
@@ -21,7 +21,12 @@ pub fn legs_kept()
     ensures { λ r. ⌜ LegsKept ⌝ }
 {}
 
-// M-101: no other records keep both promises; and two engines give the same records, outcomes, states and bytes of tapeprint. The first rests on demand 3 and the sequence alone, the second on the contracts: they equate state, outcome and records with the rules', and what tapeprint writes with the text of those.
+// M-106: the leg prices of a record against an entry are inside the legs' bids and asks as they stood just before it, ends included, and their net is its price; no such prices are before them, by leg 0, then leg 1, and so on; none are said exactly if a leg lacked a side, an ask was more than 50 above its bid, or no such prices exist. A record against the legs shows the prices of the sides used.
+pub fn leg_prices_are_least()
+    ensures { λ r. ⌜ LegPricesAreLeast ⌝ }
+{}
+
+// M-101: no other records keep both promises; and two engines give the same records, leg prices, outcomes, states and bytes of tapeprint. The first rests on demand 3 and the sequence alone, the second on the contracts: they equate state, outcome, records and leg prices with the rules', and what tapeprint writes with the text of those.
 pub fn list_is_fixed()
     ensures { λ r. ⌜ ListIsFixed ⌝ }
 {}

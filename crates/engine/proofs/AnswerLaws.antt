@@ -15,14 +15,14 @@ use Rattle.rules.specs.Outcome.{byTime, byOrder, byLegs, byCancel, Refused}
 use Rattle.rules.specs.Refusals.{leastRoom, refusal}
 use Rattle.rules.specs.Execution.{Reply, still}
 use Rattle.rules.specs.Step as R
-use Rattle.rules.specs.Step.{ends, Intake, takeIn, ending, follow, recordsOf, watched, acted, accepted, step}
+use Rattle.rules.specs.Step.{ends, Intake, takeIn, ending, follow, recordsOf, pricesOf, watched, acted, accepted, step}
 use Rattle.rules.proofs.BoundLaws.{acted-fits}
 use Rattle.types.specs.View.{outcomeOf}
 use Rattle.types.proofs.TableLaws.{from-length, from-end}
 use Rattle.state.specs.Layout as L
 use Rattle.state.specs.Layout.{isSized}
 use Rattle.state.specs.View.{entryAt, openCount, stateOf}
-use Rattle.records.specs.Records.{width, recordIn, Adds}
+use Rattle.records.specs.Records.{width, recordIn, pricesIn, AddsPriced}
 use Rattle.intake.specs.Acts.{actOf, Takes}
 use Rattle.execution.specs.Plays.{Goes}
 use Rattle.engine.specs.declared.Answer.{Answer}
@@ -62,9 +62,9 @@ module _ (l l₁ w : List ℕ) (u : State) (l₂ w₂ list l₃ w₃ list′ : L
   replies =
       (λ j. follow ((v ∙ ap (watched (m .body)) (i .state)) j) (i .act j)) ∙ ap (λ (s : State). let x = takeIn s (m .body) in follow (watched (m .body) (x .state)) (x .act)) t
 
-  pub accepted-records : Adds list 0 list′ n (accepted (stateOf l w) m .fills)
+  pub accepted-records : AddsPriced list 0 list′ n (accepted (stateOf l w) m .fills) (accepted (stateOf l w) m .prices)
   unfolding accepted acted
-  accepted-records = subst (λ (r : Reply). Adds list 0 list′ n (recordsOf (r .turns))) replies (g .records)
+  accepted-records = subst (λ (r : Reply). AddsPriced list 0 list′ n (recordsOf (r .turns)) (pricesOf (r .turns))) replies (g .records)
 
   accepted-state : stateOf l₃ w₃ ≡ accepted (stateOf l w) m .state
   unfolding accepted acted
@@ -74,7 +74,7 @@ module _ (l l₁ w : List ℕ) (u : State) (l₂ w₂ list l₃ w₃ list′ : L
   pub accepted-count : leastRoom * width ≤ length list → (n ≡ length (accepted (stateOf l w) m .fills)) × (n ≤ leastRoom)
   accepted-count h =
       let q : length (accepted (stateOf l w) m .fills) ≤ leastRoom = few l w m in
-      let e : n ≡ 0 + length (accepted (stateOf l w) m .fills) = accepted-records .made (omega arith) .0 in
+      let e : n ≡ 0 + length (accepted (stateOf l w) m .fills) = accepted-records .records .made (omega arith) .0 in
       (omega arith, omega arith)
 
   pub accepted-is : (r : Answer) → leastRoom * width ≤ length list → r .count ≡ n → outcomeOf (r .outcome) ≡ R.outcomeOf (m .body) (actOf act) (stateOf l₃ w₃) n → IsAccepted l w list m l₃ w₃ list′ r
@@ -114,15 +114,16 @@ module _ (l w list : List ℕ) (m : Message) (room : ℕ) where
       let least : leastRoom ≤ places = passes (stateOf l w) m places h .0 in
       let is : places ≡ min room (length list / width) = rw (let-pass l w list m room h .sized) refl in
       let f : length (accepted (stateOf l w) m .fills) ≤ leastRoom = few l w m in
-      let k = a .records .made (omega arith) in
+      let k = a .records .records .made (omega arith) in
       let e : r .count ≡ 0 + length (accepted (stateOf l w) m .fills) = k .0 in
       record {
         state = rw ok (a .state);
         outcome = rw ok (a .outcome);
         count = rw ok (omega arith);
         records = rw ok (k .1);
-        behind = a .records .behind;
-        sized = (p, q, a .records .sized);
+        prices = rw ok (a .records .prices (omega arith));
+        behind = a .records .records .behind;
+        sized = (p, q, a .records .records .sized);
         inside = (omega arith, omega arith);
         refused = λ x. absurd (omega arith);
       }
@@ -136,6 +137,7 @@ module _ (l w list : List ℕ) (m : Message) (room : ℕ) where
         outcome = rw no o;
         count = rw no c;
         records = rw (no, c) (from-end (recordIn list) 0 0 (omega arith));
+        prices = rw (no, c) (from-end (pricesIn list) 0 0 (omega arith));
         behind = λ i x. refl;
         sized = (refl, refl, refl);
         inside = (omega arith, omega arith);

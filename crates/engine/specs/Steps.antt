@@ -6,6 +6,7 @@ use lib.ListN.{length, getD}
 use denote.Ref.{now}
 use Rattle.rules.specs.Basics.{pick}
 use Rattle.rules.specs.Turn.{Fill}
+use Rattle.rules.specs.LegPrices.{LegPrices}
 use Rattle.rules.specs.Messages.{Message}
 use Rattle.rules.specs.Refusals.{refusal}
 use Rattle.rules.specs.Step as R
@@ -13,12 +14,16 @@ use Rattle.types.specs.View.{from, outcomeOf}
 use Rattle.state.specs.Layout.{isSized}
 use Rattle.state.specs.View.{stateOf}
 use Rattle.state.specs.Lent.{Lent}
-use Rattle.records.specs.Records.{width, recordIn, Adds}
+use Rattle.records.specs.Records.{width, recordIn, pricesIn, AddsPriced}
 use Rattle.engine.specs.declared.Answer.{Answer}
 
 -- the first n records of a list
 abbrev pub recordsIn : List ℕ → ℕ → List Fill
 recordsIn list n = from (recordIn list) 0 n
+
+-- and the leg prices of each
+abbrev pub allPricesIn : List ℕ → ℕ → List LegPrices
+allPricesIn list n = from (pricesIn list) 0 n
 
 -- the places that a message has for its records: those of the list, and no more than the caller grants; none where the slices are no state's
 abbrev pub placesIn : List ℕ → List ℕ → List ℕ → ℕ → ℕ
@@ -36,14 +41,15 @@ answerIn longs words list m room = R.step (stateOf longs words) m (placesIn long
 pub record IsAccepted (longs words list : List ℕ) (m : Message) (longs′ words′ list′ : List ℕ) (r : Answer) : Type 0 where
   pub state : stateOf longs′ words′ ≡ R.accepted (stateOf longs words) m .state
   pub outcome : outcomeOf (r .outcome) ≡ R.accepted (stateOf longs words) m .outcome
-  pub records : Adds list 0 list′ (r .count) (R.accepted (stateOf longs words) m .fills)
+  pub records : AddsPriced list 0 list′ (r .count) (R.accepted (stateOf longs words) m .fills) (R.accepted (stateOf longs words) m .prices)
 
--- what `step` promises, whole: the state, the outcome, and the records at the start of the list; what stands behind them is as it was, and under a refusal every number is
+-- what `step` promises, whole: the state, the outcome, and the records at the start of the list with their leg prices; what stands behind them is as it was, and under a refusal every number is
 pub record IsStep (longs words list : List ℕ) (m : Message) (room : ℕ) (longs′ words′ list′ : List ℕ) (r : Answer) : Type 0 where
   pub state : stateOf longs′ words′ ≡ answerIn longs words list m room .state
   pub outcome : outcomeOf (r .outcome) ≡ answerIn longs words list m room .outcome
   pub count : r .count ≡ length (answerIn longs words list m room .fills)
   pub records : recordsIn list′ (r .count) ≡ answerIn longs words list m room .fills
+  pub prices : allPricesIn list′ (r .count) ≡ answerIn longs words list m room .prices
   pub behind : (i : ℕ) → r .count * width ≤ i → getD list′ i 0 ≡ getD list i 0
   pub sized : (length longs′ ≡ length longs) × (length words′ ≡ length words) × (length list′ ≡ length list)
   pub inside : (r .count ≤ room) × (r .count * width ≤ length list)

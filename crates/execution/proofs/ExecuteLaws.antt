@@ -2,7 +2,7 @@
 use mathlib.Core.Path.{_≡_, refl, ap, ap₂, sym, subst, _∙_}
 use mathlib.Core.Bool.{Bool, true, _&&_}
 use mathlib.Core.List.{List, [], _∷_, _++_, append-nil}
-use Prim.Native.Nat.{ℕ, zero, suc, _+_, _-_, _≤_, min}
+use Prim.Native.Nat.{ℕ, zero, suc, _+_, _-_, _*_, _≤_, min}
 use native.Mathlib.Omega.{arith}
 use borrow.Author.Tests.{ne-eqb}
 use lib.Dec.{leb}
@@ -12,9 +12,10 @@ use Rattle.rules.specs.Prices.{Derived, derived, lower}
 use Rattle.rules.specs.Book.{Stage, Entry, isLive}
 use Rattle.rules.specs.State.{Auction, none, pending, State, withMarket, withBook, withAuction, contraPrice, contraPrices}
 use Rattle.rules.specs.Auction.{keeping, gone}
-use Rattle.rules.specs.Turn.{L, T, Offer, sizes, turn, keyOf}
+use Rattle.rules.specs.Turn.{L, T, Offer, sizes, turn, keyOf, Fill}
+use Rattle.rules.specs.LegPrices.{LegPrices, booked}
 use Rattle.rules.specs.Execution.{Mode, fromQueue, goingLive, legsPass, legsLead, offersOf, splitOffers, allUpTo, interest, inside, turnOf, stageAfter, afterTurn, keep, settled, keptAfter, executed, executeIf}
-use Rattle.rules.specs.Step.{recordsOf}
+use Rattle.rules.specs.Step.{recordsOf, pricesOf}
 use Rattle.rules.proofs.BasicsLaws.{sum-zeros}
 use Rattle.rules.proofs.TestLaws.{pick-none}
 use Rattle.rules.proofs.TurnLaws.{turn-below, turn-sum}
@@ -22,7 +23,9 @@ use Rattle.types.specs.View.{stageOf}
 use Rattle.types.proofs.TableLaws.{from-length}
 use Rattle.state.specs.Layout as L
 use Rattle.state.specs.View.{entryAt, openCount, entriesOf, legsOf, marketOf, auctionOf, stateOf}
-use Rattle.records.specs.Records.{Adds}
+use Rattle.state.proofs.TableLaws.{from-same}
+use Rattle.records.specs.Records.{width, recordIn, Adds, AddsPriced}
+use Rattle.legprices.specs.Books.{IsBooked}
 use Rattle.quotes.specs.Uses.{mostDerived}
 use Rattle.execution.specs.Reach.{atOrThrough}
 use Rattle.execution.specs.Slots.{modeOf, offersIn, legsWithin}
@@ -206,11 +209,30 @@ pub gives : (m : Mode) (l w : List ℕ) (k : ℕ) (gave : List ℕ) (took : ℕ)
 unfolding turnOf
 gives m l w k gave took old at new r t = (t .given, t .taken)
 
+-- its records with their leg prices, once these are given
+booked-adds : (w f g h : List ℕ) (at r : ℕ) (buy : Bool) (fs : List Fill) → Adds f at g r fs → IsBooked w g at r buy h → AddsPriced f at h r fs (booked buy (legsOf w) (marketOf w) fs)
+booked-adds w f g h at r buy fs a b = record {
+  records = record {
+    sized = b .sized ∙ a .sized;
+    more = a .more;
+    inside = a .inside;
+    before = λ i q. b .before i q ∙ a .before i q;
+    behind = λ i q. b .behind i q ∙ a .behind i q;
+    made = λ q. (a .made q .0, from-same (recordIn h) (recordIn g) at r (λ j u v. b .records j) ∙ a .made q .1);
+  };
+  prices = λ q.
+      let e : r ≡ at + length fs = a .made q .0 in
+      let s : length g ≡ length f = a .sized in
+      b .prices (omega arith) ∙ ap (booked buy (legsOf w) (marketOf w)) (a .made q .1);
+}
+
 -- its records and the state after it
-pub executed-goes : (m : Mode) (l w f : List ℕ) (at k : ℕ) (l′ w′ f′ : List ℕ) (r : ℕ) (gave : List ℕ) (took : ℕ) → TurnedAt m l w k gave took f at f′ r
-    → stateOf l′ w′ ≡ executed m (stateOf l w) (turnOf m (stateOf l w) (entryAt l w k)) → Goes l w f at l′ w′ f′ r (λ s. executeIf true m s (entryAt l w k))
-unfolding turnOf recordsOf
-executed-goes m l w f at k l′ w′ f′ r gave took t e = record { state = e; records = rw append-nil (t .records) }
+pub executed-goes : (m : Mode) (l w f : List ℕ) (at k : ℕ) (l′ w′ g h : List ℕ) (r : ℕ) (gave : List ℕ) (took : ℕ) (buy : Bool) → TurnedAt m l w k gave took f at g r → buy ≡ entryAt l w k .buy → IsBooked w g at r buy h
+    → stateOf l′ w′ ≡ executed m (stateOf l w) (turnOf m (stateOf l w) (entryAt l w k)) → Goes l w f at l′ w′ h r (λ s. executeIf true m s (entryAt l w k))
+unfolding turnOf recordsOf pricesOf
+executed-goes m l w f at k l′ w′ g h r gave took buy t u b e =
+    let b′ : IsBooked w g at r (entryAt l w k .buy) h = subst (λ (x : Bool). IsBooked w g at r x h) u b in
+    record { state = e; records = rw (append-nil (turnOf m (stateOf l w) (entryAt l w k) .records), append-nil (turnOf m (stateOf l w) (entryAt l w k) .prices)) (booked-adds w f g h at r (entryAt l w k .buy) _ (t .records) b′) }
 
 -- ---- readiness
 

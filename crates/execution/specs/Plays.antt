@@ -5,15 +5,15 @@ use Prim.Native.Nat.{ℕ}
 use denote.Ref.{now}
 use Rattle.rules.specs.State.{State}
 use Rattle.rules.specs.Execution.{Reply}
-use Rattle.rules.specs.Step.{recordsOf}
+use Rattle.rules.specs.Step.{recordsOf, pricesOf}
 use Rattle.state.specs.View.{stateOf}
 use Rattle.state.specs.Lent.{Lent}
-use Rattle.records.specs.Records.{Adds}
+use Rattle.records.specs.Records.{AddsPriced}
 
--- the state is that of the reply, and the records of its turns are added
+-- the state is that of the reply, and the records of its turns are added with their leg prices
 pub record Goes (longs words list : List ℕ) (at : ℕ) (longs′ words′ list′ : List ℕ) (r : ℕ) (q : State → Reply) : Type 0 where
   pub state : stateOf longs′ words′ ≡ q (stateOf longs words) .state
-  pub records : Adds list at list′ r (recordsOf (q (stateOf longs words) .turns))
+  pub records : AddsPriced list at list′ r (recordsOf (q (stateOf longs words) .turns)) (pricesOf (q (stateOf longs words) .turns))
 
 -- the same said of the lent slices themselves, for a contract
 abbrev pub Plays : Lent → Lent → Lent → ℕ → ℕ → (State → Reply) → Type 0

@@ -395,7 +395,7 @@ fn applied(
     quotes::lower(words, buy, lead + gave[Slot::LATE]);
 }
 
-// The turn of the order at place k, as its mode says: its records, and the state after it.
+// The turn of the order at place k, as its mode says: its records with their leg prices, and the state after it.
 fn execute(
     longs: &mut [u64],
     words: &mut [u32],
@@ -411,6 +411,7 @@ fn execute(
     let buy = state::is_set(words[Book::BUYS + k]);
     let d = quotes::derived(words, buy);
     let t = planned(longs, words, list, at, mode, k, d, &mut gave);
+    legprices::book(words, list, at, t.count, buy);
     applied(longs, words, mode, k, d, &gave, t.units);
     t.count
 }

@@ -9,13 +9,13 @@ use Rattle.rules.specs.State.{State}
 use Rattle.rules.specs.Refusals.{leastRoom, refusal}
 use Rattle.rules.specs.Step as R
 use Rattle.rules.specs.Tape.{messageBytes, Fields, fieldsOf, isKind, messageFrom}
-use Rattle.rules.specs.Print.{recordLines}
+use Rattle.rules.specs.Print.{liveLines}
 use Rattle.types.specs.View.{outcomeOf}
 use Rattle.state.specs.View.{stateOf}
 use Rattle.state.specs.Lent.{Lent}
 use Rattle.records.specs.Records.{width}
 use Rattle.engine.specs.declared.Answer.{Answer}
-use Rattle.engine.specs.Steps.{recordsIn, placesIn}
+use Rattle.engine.specs.Steps.{recordsIn, allPricesIn, placesIn}
 use Rattle.text.specs.Text.{linesText}
 use Rattle.text.specs.Answers.{outcomeText}
 use Rattle.text.specs.Outputs.{Puts, PutsFirst}
@@ -45,9 +45,9 @@ numberIn longs words list f room = numberOf (stateOf longs words) f (placesIn lo
 
 -- ---- its bytes
 
--- the bytes of an answer: the outcome's line, and then those of the records and their averages
+-- the bytes of an answer: the outcome's line, and then those of the records, each with its leg prices, and their averages
 abbrev pub answerText : R.Answer → List ℕ
-answerText a = outcomeText (a .outcome) ++ linesText (recordLines (a .fills))
+answerText a = outcomeText (a .outcome) ++ linesText (liveLines (a .fills) (a .prices))
 
 -- ---- records one after another, each with a fill list of 2,000 places
 
@@ -58,9 +58,9 @@ afterRecord s p = answerTo s p leastRoom .state
 abbrev pub replyText : State → List ℕ → List ℕ
 replyText s p = answerText (answerTo s p leastRoom)
 
--- the bytes of an answer at most: 4,001 lines
+-- the bytes of an answer at most: 6,001 lines
 abbrev pub mostReply : ℕ
-mostReply = 512128
+mostReply = 768128
 
 -- the state after some records, each answered from the state that the one before left, and the bytes of their answers
 abbrev pub afterRecords : State → List (List ℕ) → State
@@ -82,12 +82,13 @@ wholeRecords p = length p / messageBytes
 
 -- ---- said of the lent slices
 
--- what `answer_of` promises, whole: the state, the outcome, and the records at the start of the list; what stands behind the records is as it was, and under a refusal every number is
+-- what `answer_of` promises, whole: the state, the outcome, and the records at the start of the list with their leg prices; what stands behind the records is as it was, and under a refusal every number is
 pub record IsAnswer (longs words list : List ℕ) (f : Fields) (room : ℕ) (longs′ words′ list′ : List ℕ) (r : Answer) : Type 0 where
   pub state : stateOf longs′ words′ ≡ answerIn longs words list f room .state
   pub outcome : outcomeOf (r .outcome) ≡ answerIn longs words list f room .outcome
   pub count : r .count ≡ length (answerIn longs words list f room .fills)
   pub records : recordsIn list′ (r .count) ≡ answerIn longs words list f room .fills
+  pub prices : allPricesIn list′ (r .count) ≡ answerIn longs words list f room .prices
   pub behind : (i : ℕ) → r .count * width ≤ i → getD list′ i 0 ≡ getD list i 0
   pub sized : (length longs′ ≡ length longs) × (length words′ ≡ length words) × (length list′ ≡ length list)
   pub inside : (r .count ≤ room) × (r .count * width ≤ length list)

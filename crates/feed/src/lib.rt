@@ -77,7 +77,7 @@ fn put_outcome(out: &mut [u8], at: usize, o: Outcome) -> usize
     text::add(out, at, &line, n)
 }
 
-// A message record answered: the outcome's line, and then those of its records and their averages.
+// A message record answered: the outcome's line, and then those of its records, each with its leg prices, and their averages.
 pub fn tell(
     longs: &mut [u64],
     words: &mut [u32],
@@ -92,7 +92,7 @@ pub fn tell(
     let a = answer(longs, words, list, p);
     let outcome = a.outcome;
     let behind = put_outcome(out, at, outcome);
-    text::add_records(list, a.count, out, behind)
+    text::add_live(list, a.count, out, behind)
 }
 
 // ---- record after record

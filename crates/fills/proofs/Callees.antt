@@ -31,8 +31,8 @@ use Rattle.types.proofs.Message as G
 use Rattle.types.proofs.Message.Laws as G′
 use Rattle.types.proofs.Outcome as N
 use Rattle.engine.specs.declared.Answer.{Answer}
-use Rattle.types.specs.View.{messageOf, fillOf}
-use Rattle.records.specs.Records.{recordAt}
+use Rattle.types.specs.View.{messageOf}
+use Rattle.records.specs.Records.{recordAt, pricesAt, Holds}
 use Rattle.engine.specs.Steps.{IsStep}
 use Rattle.engine.proofs.Answer as K
 use Rattle.engine.proofs.Answer.Laws as K′
@@ -100,7 +100,7 @@ module _ {M : Type 1} (𝓤 : URA M) (H : Heap 𝓤) (A : Atoms 𝓤) (mem : Mem
         (qed W [] ∵ nothing ! $ owned ! usize (Is usize) (uint-makes 𝓤 H A W w64) i _ (refl, i-fits) $ fjoin ! $ done !) (λ x. id⊢ 𝓤 _)
 
     abbrev pub Read : Fill → Type 0
-    Read f = fillOf f ≡ recordAt xs i
+    Read f = Holds (recordAt xs i) (pricesAt xs i) f
 
     pub gives-fill : (x : Loan) (v : Val) → ent 𝓤 (sep 𝓤 (FillAt .post (to-fill x) v) (Kept-shr 𝓤 H A W u64 b o xs FillAt to-fill x)) (H .⇛ (mean 𝓤 H A (Gets-shr 𝓤 H A W u64 b o xs FillAt to-fill R Read v)))
     gives-fill = gives-shr 𝓤 H A W u64 b o xs FillAt to-fill R Read (fsep ftrue (fsep ftrue ftrue)) (Unit {0} × (Unit {0} × Unit {0})) (λ x v. id⊢ 𝓤 _)

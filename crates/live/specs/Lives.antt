@@ -23,7 +23,7 @@ use Rattle.live.specs.declared.Total.{Total}
 
 -- the slices of a state, a list of 2,000 places, and a page that has room for an answer when it is full
 abbrev pub Fits : List ℕ → List ℕ → List ℕ → List ℕ → Type 0
-Fits longs words list page = Sized longs words × (leastRoom * width ≤ length list) × (length page ≡ 640128)
+Fits longs words list page = Sized longs words × (leastRoom * width ≤ length list) × (length page ≡ 896128)
 
 -- ---- one read
 

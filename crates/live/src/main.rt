@@ -27,7 +27,7 @@ const LEGS: usize = Opening::MOST_LEGS;
 
 const NUMBERS: usize = Record::NUMBERS * Fill::LEAST_ROOM;
 
-// A page is full behind so many bytes, and has room for an answer then: 4,001 lines of at most 128 bytes.
+// A page is full behind so many bytes, and has room for an answer then: 6,001 lines of at most 128 bytes.
 const FULL: usize = 128_000;
 
 // The answers to the whole records of an input: how many were given, how many bytes they have, and whether the system took them.
@@ -57,10 +57,10 @@ impl Total {
 }
 
 // An empty page.
-fn blank_page() -> [u8; 640_128]
-    ensures { λ r. ⌜ 640128 ≡ length r ⌝ }
+fn blank_page() -> [u8; 896_128]
+    ensures { λ r. ⌜ 896128 ≡ length r ⌝ }
 {
-    [0; 640_128]
+    [0; 896_128]
 }
 
 // Room for 1,820 records.

@@ -12,6 +12,7 @@ ghost use Rattle.state.specs.View.{ratioOf};
 ghost use Rattle.state.specs.Lent.{Tells, WordsBecome};
 ghost use Rattle.quotes.specs.Uses.{OfLeg, priceUsed, legPriceOf, mostCost, mostDerived, IsPart};
 ghost use Rattle.quotes.specs.Requoted.{Requoted};
+ghost use Rattle.quotes.specs.Ranges.{quoteNow, rangeIn, rangeNow};
 use state::Legs;
 use state::Market;
 use state::Settings;
@@ -340,13 +341,21 @@ fn lower_quote(ask: bool, n: u64, q: Quote) -> Quote
 }
 
 // A leg's quote less what so many units take of it.
+fn lowered_at(words: &[u32], ask: bool, units: u32, k: usize) -> Quote
+    requires { ⌜ WordsSized (now words) × (k < 4) ⌝ }
+    ensures { λ r. ⌜ OfLeg words k (λ l q. quoteOf r ≡ lowerQuote (usesAsk ask l) (l .ratio * units) q) ⌝ }
+{
+    let side = uses_ask(words, ask, k);
+    let n = times(ratio_at(words, k), units);
+    lower_quote(side, n, quote_at(words, k))
+}
+
+// The same stored.
 fn lower_leg(words: &mut [u32], ask: bool, units: u32, k: usize)
     requires { ⌜ WordsSized (now words) × (k < 4) ⌝ }
     ensures { λ _. ⌜ OfLeg words k (λ l q. Requoted k (lowerQuote (usesAsk ask l) (l .ratio * units) q) (now (words .entry)) (now (words .exit))) ⌝ }
 {
-    let side = uses_ask(words, ask, k);
-    let n = times(ratio_at(words, k), units);
-    put_quote(words, k, lower_quote(side, n, quote_at(words, k)));
+    put_quote(words, k, lowered_at(words, ask, units, k));
 }
 
 // "Filling legs lowers those sizes by ratio × units".
@@ -361,6 +370,51 @@ pub fn lower(words: &mut [u32], ask: bool, units: u32)
         k += 1;
     }
 }
+
+// ---- quotes read, as a turn goes on
+
+// A leg's quote, lowered or not by the units that a buyer or a seller took.
+fn quote_now(words: &[u32], k: usize, buy: bool, lowered: bool, taken: u32) -> Quote
+    requires { ⌜ WordsSized (now words) × (k < 4) ⌝ }
+    ensures { λ r. ⌜ OfLeg words k (λ l q. quoteOf r ≡ quoteNow buy lowered taken l q) ⌝ }
+{
+    if lowered {
+        return lowered_at(words, buy, taken, k);
+    }
+    quote_at(words, k)
+}
+
+// A leg's local bid and ask, 0 for absent, with what a cent of it counts for a buyer of the strategy.
+pub struct Range {
+    pub plus: bool,
+    pub ratio: u32,
+    pub bid: u32,
+    pub ask: u32,
+}
+
+// The range of a leg, lowered or not by the units that a buyer or a seller took; nothing beyond the fourth.
+pub fn range_at(words: &[u32], k: usize, buy: bool, lowered: bool, taken: u32) -> Range
+    requires { ⌜ WordsSized (now words) ⌝ }
+    ensures { λ r. ⌜ OfLeg words k (λ l q. rangeIn r ≡ rangeNow k buy lowered taken l q) ⌝ }
+{
+    if k < Legs::MOST {
+        let q = quote_now(words, k, buy, lowered, taken);
+        return Range {
+            plus: is_b(words, k),
+            ratio: ratio_at(words, k),
+            bid: q.bid,
+            ask: q.ask,
+        };
+    }
+    Range {
+        plus: false,
+        ratio: 0,
+        bid: 0,
+        ask: 0,
+    }
+}
+
+// ---- quotes taken in
 
 // A quote with both local sides replaced.
 fn with_local(old: Quote, q: Local) -> Quote

@@ -1,14 +1,17 @@
--- Fill records in a list of numbers, six for each. Every number has a meaning: an id or units above 32 bits count as the greatest of them, a price above the greatest as that.
+-- Fill records in a list of numbers, eleven for each: six of document 01, and the leg prices of M-106. Every number has a meaning: an id or units above 32 bits count as the greatest of them, a price above the greatest as that.
 use mathlib.Core.Path.{_≡_}
-use mathlib.Core.List.{List}
+use mathlib.Core.Bool.{Bool, true, false}
+use mathlib.Core.List.{List, [], _∷_}
 use Prim.Native.Nat.{ℕ, _+_, _-_, _*_, _/_, _≤_, _<_, min}
 use lib.Dec.{eqb, ltb}
-use lib.ListN.{length, getD}
+use lib.ListN.{length, getD, take}
 use denote.Ref.{now}
 use Rattle.rules.specs.Basics.{pick}
 use Rattle.rules.specs.Prices.{cents}
 use Rattle.rules.specs.Turn.{Rank, L, C, N, T, R, Contra, legs, entry, Fill}
-use Rattle.types.specs.View.{from}
+use Rattle.rules.specs.LegPrices.{LegPrices, unpriced, priced}
+use Rattle.types.specs.declared.Fill as F
+use Rattle.types.specs.View.{from, fillOf, heldLegs, heldPrices}
 use Rattle.state.specs.Lent.{Lent}
 
 -- a number of 32 bits
@@ -34,7 +37,7 @@ recordFrom number order rank contra price units =
 
 -- the numbers of a record
 abbrev pub width : ℕ
-width = 6
+width = 11
 
 -- the record at a place of a list
 abbrev pub recordIn : List ℕ → ℕ → Fill
@@ -44,6 +47,28 @@ recordIn l j =
 -- the same, of zeros where the list has no such place
 abbrev pub recordAt : List ℕ → ℕ → Fill
 recordAt l j = pick (ltb j (length l / width)) (recordIn l j) (recordFrom 0 0 0 0 0 0)
+
+-- its leg prices, from a number that is 0 for none or one more than there are, and four others
+abbrev pub pricesFrom : ℕ → List ℕ → LegPrices
+pricesFrom n ps = pick (eqb n 0) unpriced (priced (take (n - 1) ps))
+
+-- those of the record at a place
+abbrev pub pricesIn : List ℕ → ℕ → LegPrices
+pricesIn l j =
+    pricesFrom (getD l (j * width + 6) 0) (getD l (j * width + 7) 0 ∷ getD l (j * width + 8) 0 ∷ getD l (j * width + 9) 0 ∷ getD l (j * width + 10) 0 ∷ [])
+
+-- the same, none where the list has no such place
+abbrev pub pricesAt : List ℕ → ℕ → LegPrices
+pricesAt l j = pick (ltb j (length l / width)) (pricesIn l j) unpriced
+
+-- a struct holds a record and its leg prices
+abbrev pub Holds : Fill → LegPrices → F.Fill → Type 0
+Holds f p r = (fillOf r ≡ f) × (r .legs ≡ heldLegs p) × (r .prices ≡ heldPrices p)
+
+-- whether a contra is the legs
+abbrev pub isLegs : Contra → Bool
+isLegs legs = true
+isLegs (entry i) = false
 
 -- one number of the record at a place of a list, 0 where the list has no such place
 abbrev pub numberAt : List ℕ → ℕ → ℕ → ℕ
@@ -61,3 +86,15 @@ pub record Adds (old : List ℕ) (at : ℕ) (new : List ℕ) (r : ℕ) (fs : Lis
 -- the same said of a lent list, for a contract
 abbrev pub Writes : Lent → ℕ → ℕ → List Fill → Type 0
 Writes list at r fs = Adds (now (list .entry)) at (now (list .exit)) r fs
+
+-- the same with the leg prices of each
+pub record AddsPriced (old : List ℕ) (at : ℕ) (new : List ℕ) (r : ℕ) (fs : List Fill) (ps : List LegPrices) : Type 0 where
+  pub records : Adds old at new r fs
+  pub prices : (at + length fs) * width ≤ length old → from (pricesIn new) at r ≡ ps
+
+-- leg prices given to the record at place j of a list: they are there if it has the place, and nothing else changes
+pub record Prices (old : List ℕ) (j : ℕ) (new : List ℕ) (p : LegPrices) : Type 0 where
+  pub sized : length new ≡ length old
+  pub before : (i : ℕ) → i < j * width + 6 → getD new i 0 ≡ getD old i 0
+  pub behind : (i : ℕ) → j * width + width ≤ i → getD new i 0 ≡ getD old i 0
+  pub made : j * width + width ≤ length old → pricesIn new j ≡ p

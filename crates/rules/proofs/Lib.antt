@@ -11,6 +11,8 @@ pub mod RowLaws
 pub mod EntryLaws
 pub mod MarketLaws
 pub mod LessLaws
+pub mod SearchLaws
+pub mod LeastLaws
 pub mod ExecuteCases
 pub mod LegsLaws
 pub mod ExecuteLaws

@@ -11,6 +11,7 @@ use Rattle.rules.specs.Book.{count, isResponse}
 use Rattle.rules.specs.Messages.{Terms, Body, local, national, order, response, modify, cancel, clock, reduce, Message}
 use Rattle.rules.specs.Refusals.{isOrder}
 use Rattle.rules.specs.Turn.{Rank, L, C, N, T, R, Contra, legs, entry, sizes, Fill}
+use Rattle.rules.specs.LegPrices.{LegPrices, unpriced, priced}
 use Rattle.rules.specs.Outcome.{byTime, byOrder, byLegs, byCancel, Outcome, Noted, Placed, Begun, Joined, Ended, Refused}
 use Rattle.rules.specs.Execution.{Turn}
 use Rattle.rules.specs.Step.{Answer}
@@ -22,7 +23,7 @@ use Rattle.rules.specs.Cases.{symbolOf, pair, spread, sent, quote, nbbo,
 
 -- ---- rows
 
--- what a row asks: the answer to a message after others, the outcomes of messages after others, the numbers of openings and of tapes, what a tape means and what it prints, the averages of a message after others and that of one order, and what the legs offer the first order that a message executes
+-- what a row asks: the answer to a message after others, the outcomes of messages after others, the numbers of openings and of tapes, what a tape means and what it prints, the averages of a message after others and that of one order, what the legs offer the first order that a message executes, and the leg prices of its records
 pub data Asked : Type 0 where
   answerAfter : Strategy → List Sent → Sent → Asked
   outcomesAfter : Strategy → List Sent → List Sent → Asked
@@ -33,8 +34,9 @@ pub data Asked : Type 0 where
   averagesAfter : Strategy → List Sent → Sent → Asked
   averageAfter : Strategy → List Sent → Sent → ℕ → Asked
   legsOffered : Strategy → List Sent → Sent → Asked
+  pricesAfter : Strategy → List Sent → Sent → Asked
 
--- and what is expected: an outcome, its records, and how many orders and responses are open after it; outcomes; numbers, 0 for a pass, or units of rank L and of rank T; a tape read; lines; averages; one of them
+-- and what is expected: an outcome, its records, and how many orders and responses are open after it; outcomes; numbers, 0 for a pass, or units of rank L and of rank T; a tape read; lines; averages; one of them; leg prices
 pub data Expected : Type 0 where
   told : Outcome → List Fill → ℕ → ℕ → Expected
   outcomes : List Outcome → Expected
@@ -43,6 +45,7 @@ pub data Expected : Type 0 where
   lines : List Line → Expected
   averaged : List OrderAverage → Expected
   averageIs : Average → Expected
+  pricedAs : List LegPrices → Expected
 
 -- an answer, told
 abbrev pub toldOf : Answer → Expected
@@ -64,6 +67,7 @@ said (printOf t) = lines (linesOf t)
 said (averagesAfter o ms m) = averaged (averages (answerTo (after (startOf o) ms) m .fills))
 said (averageAfter o ms m i) = averageIs (averageFor i (answerTo (after (startOf o) ms) m .fills))
 said (legsOffered o ms m) = numbers (firstOffered (answerTo (after (startOf o) ms) m .turns))
+said (pricesAfter o ms m) = pricedAs (answerTo (after (startOf o) ms) m .prices)
 
 -- a row of the table: its number, by which it is cited, and its two columns
 pub record Row : Type 0 where
@@ -634,9 +638,31 @@ reduceRows =
     (outcomes (Refused 50 ∷ Refused 50 ∷ Refused 71 ∷ Refused 71 ∷ Refused 71 ∷ Noted 0 ∷ Refused 71 ∷ []))
     ∷ []
 
+-- M-106
+abbrev pub legPriceRows : List Row
+legPriceRows =
+    -- "the lowest price on leg 0 is taken, then on leg 1": 220 less 115, and 225 less 110, as leg 1 is at 110 at least
+    row 103 (pricesAfter spread (market ++ (buyer 1 1 5 (pos 105) ∷ [])) (sells 1 2 5 (pos 105))) (pricedAs (priced (220 ∷ 115 ∷ []) ∷ []))
+    ∷ row 104 (pricesAfter spread (market ++ (buyer 1 1 5 (pos 115) ∷ [])) (sells 1 2 5 (pos 115))) (pricedAs (priced (225 ∷ 110 ∷ []) ∷ []))
+    -- leg 0 may be the one that is sold: the lowest that leg 1 can follow
+    ∷ row 105 (pricesAfter (pair 6 S 1 B 1 5) (quote 0 110 10 120 10 ∷ quote 1 220 10 240 10 ∷ buyer 1 1 5 (pos 115) ∷ []) (sells 1 2 5 (pos 115))) (pricedAs (priced (110 ∷ 225 ∷ []) ∷ []))
+    -- "a leg's ask is more than 50 cents above its bid": 50 is not
+    ∷ row 106 (pricesAfter spread (quote 0 220 10 270 10 ∷ quote 1 110 10 120 10 ∷ buyer 1 1 5 (pos 150) ∷ []) (sells 1 2 5 (pos 150))) (pricedAs (priced (260 ∷ 110 ∷ []) ∷ []))
+    ∷ row 107 (pricesAfter spread (quote 0 220 10 271 10 ∷ quote 1 110 10 120 10 ∷ buyer 1 1 5 (pos 150) ∷ []) (sells 1 2 5 (pos 150))) (pricedAs (unpriced ∷ []))
+    -- "a leg lacks a side", though one that the order does not use
+    ∷ row 108 (pricesAfter spread (quote 0 220 10 240 10 ∷ quote 1 110 10 0 0 ∷ buyer 1 1 5 (pos 115) ∷ []) (sells 1 2 5 (pos 115))) (pricedAs (unpriced ∷ []))
+    -- "or no such prices exist": three times leg 0 less 110 or 111 is 549, 550, 552, 553, 555 or 556
+    ∷ row 109 (pricesAfter (pair 6 B 3 S 1 5) (quote 0 220 9 222 9 ∷ quote 1 110 9 111 9 ∷ buyer 1 1 5 (pos 551) ∷ []) (sells 1 2 5 (pos 551))) (pricedAs (unpriced ∷ []))
+    ∷ row 110 (pricesAfter (pair 6 B 3 S 1 5) (quote 0 220 9 222 9 ∷ quote 1 110 9 111 9 ∷ buyer 1 1 5 (pos 552) ∷ []) (sells 1 2 5 (pos 552))) (pricedAs (priced (221 ∷ 111 ∷ []) ∷ []))
+    -- "as they stood just before the fill": the legs gave all ten units first, and their sides are absent; "Fills against legs show the prices taken"
+    ∷ row 111 (pricesAfter spread (market ++ (sells 1 1 9 (pos 130) ∷ [])) (buyer 1 2 15 (pos 130))) (pricedAs (priced (240 ∷ 110 ∷ []) ∷ unpriced ∷ []))
+    -- a side with fewer contracts than the ratio is not absent: one is left of each; "ends included"
+    ∷ row 112 (pricesAfter (pair 6 B 2 S 3 5) (quote 0 220 11 240 11 ∷ quote 1 110 16 120 16 ∷ sells 1 1 9 (pos 150) ∷ []) (buyer 1 2 8 (pos 150))) (pricedAs (priced (240 ∷ 110 ∷ []) ∷ priced (240 ∷ 110 ∷ []) ∷ []))
+    ∷ []
+
 -- the table
 abbrev pub sentences : List Row
-sentences = seriesRows ++ priceRows ++ lifeRows ++ auctionRows ++ executionRows ++ turnedBackRows ++ tapeRows ++ arrivalRows ++ averageRows ++ legSizeRows ++ thirdFridayRows ++ reduceRows
+sentences = seriesRows ++ priceRows ++ lifeRows ++ auctionRows ++ executionRows ++ turnedBackRows ++ tapeRows ++ arrivalRows ++ averageRows ++ legSizeRows ++ thirdFridayRows ++ reduceRows ++ legPriceRows
 
 -- the rules answer as it says
 unfoldable pub SentencesHold : Type 0

@@ -5,7 +5,7 @@ use mathlib.Core.List.{List, [], _∷_, _++_}
 use Prim.Native.Nat.{ℕ, _+_, _*_, _≤_, min}
 use native.Mathlib.Omega.{arith}
 use lib.IntN.{ℤ}
-use lib.ListN.{length, length-append, take}
+use lib.ListN.{length, take}
 use Rattle.rules.specs.Basics.{pick}
 use Rattle.rules.specs.Refusals.{leastRoom}
 use Rattle.rules.specs.Turn.{Fill}
@@ -19,7 +19,7 @@ use Rattle.average.proofs.FirstLaws.{firsts-last}
 use Rattle.text.specs.Text.{averageText, lineText, linesText}
 use Rattle.text.specs.Averages.{averagesAt}
 use Rattle.text.specs.Outputs.{mostLine, Puts}
-use Rattle.text.proofs.PutsLaws.{puts-line, puts-none, puts-then, lines-append, one-line, EachPut}
+use Rattle.text.proofs.PutsLaws.{puts-line, puts-none, lines-append, one-line, lines-then, EachPut}
 
 -- ---- one list of averages, then another
 
@@ -56,7 +56,7 @@ averages-more l n i =
     ∙ lines-append (averageLines (averagesOf all (firsts fs))) (averageLines (averagesOf all new))
 
 -- all of them
-pub averages-end : (l : List ℕ) (n i : ℕ) (lent : List ℕ) (start at : ℕ) (out : List ℕ) → i ≡ min n leastRoom → EachPut (averagesText l n) i lent start at out
+pub averages-end : (l : List ℕ) (n i : ℕ) (lent : List ℕ) (start at : ℕ) (out : List ℕ) → i ≡ min n leastRoom → EachPut (averagesText l n) mostLine i lent start at out
     → Puts (linesText (averageLines (averages (firstRecords l n)))) lent start at out × (length (linesText (averageLines (averages (firstRecords l n)))) ≤ mostLine * min n leastRoom)
 unfolding averages
 averages-end l n i lent start at out e p = let v = rw e at p in (v .puts, v .few)
@@ -115,13 +115,10 @@ pub records-put : (l : List ℕ) (n m : ℕ) (lent : List ℕ) (at : ℕ) (mid :
     → Puts (linesText (averageLines (averages (firstRecords l n)))) mid end r out × (length (linesText (averageLines (averages (firstRecords l n)))) ≤ mostLine * min n leastRoom)
     → Puts (linesText (recordLines (firstRecords l n))) lent at r out × (length (linesText (recordLines (firstRecords l n))) ≤ 2 * mostLine * min n leastRoom)
 records-put l n m lent at mid end r out e p q =
-    let fills : List ℕ = linesText (fillLines (firstRecords l n)) in
-    let rest : List ℕ = linesText (averageLines (averages (firstRecords l n))) in
-    let v : Puts fills lent at end mid × (length fills ≤ mostLine * min n leastRoom) = rw e at p in
-    let k : length (fills ++ rest) ≡ length fills + length rest = length-append fills rest in
-    let a = v .1 in
-    let b = q .1 in
-    rw (lines-append (fillLines (firstRecords l n)) (averageLines (averages (firstRecords l n)))) (puts-then fills rest lent at mid end r out (v .0) (q .0), omega (arith, k, a, b))
+    let fs : List Fill = firstRecords l n in
+    let v = lines-then (fillLines fs) (averageLines (averages fs)) (mostLine * min n leastRoom) (mostLine * min n leastRoom) lent at mid end r out (rw e at p) q in
+    let few = v .1 in
+    (v .0, omega (arith, few))
 
 -- no records
 pub no-records : (l : List ℕ) (n : ℕ) (lent : List ℕ) (at start : ℕ) → n ≡ 0 → start ≡ min at (length lent)

@@ -1,15 +1,16 @@
 -- The records of a list, put one after another.
 use mathlib.Core.Path.{_≡_, refl, ap, sym, _∙_}
 use mathlib.Core.List.{List, [], _∷_, _++_, append-nil}
-use Prim.Native.Nat.{ℕ, zero, suc, _+_, _-_, _*_, _/_, _≤_, min}
+use Prim.Native.Nat.{ℕ, _+_, _*_, _/_, _≤_, min}
 use native.Mathlib.Omega.{arith}
 use borrow.Author.Tests.{lt-ltb}
 use lib.ListN.{length}
 use Rattle.rules.specs.Refusals.{leastRoom}
 use Rattle.rules.specs.Turn.{Fill}
 use Rattle.rules.specs.Print.{fillLine, fillLines}
-use Rattle.types.specs.View.{upto, from}
+use Rattle.types.specs.View.{from}
 use Rattle.types.proofs.TableLaws.{from-end, from-last}
+use Rattle.state.proofs.TableLaws.{from-same}
 use Rattle.records.specs.Records.{width, recordIn, recordAt}
 use Rattle.average.specs.Sums.{firstRecords}
 use Rattle.text.specs.Text.{lineText, linesText}
@@ -37,14 +38,7 @@ one-fill l i f e =
 
 -- ---- records that the list has
 
-upto-known : (l : List ℕ) (k n : ℕ) → (k + n) * width ≤ length l → upto (recordAt l) k n ≡ upto (recordIn l) k n
-unfolding upto
-upto-known l k zero h = refl
-upto-known l k (suc n) h =
-    let z : recordAt l k ≡ recordIn l k = rw (lt-ltb k (length l / width) (omega arith)) refl in
-    (λ i. z i ∷ upto-known l (k + 1) n (omega arith) i)
-
 pub records-known : (l : List ℕ) (n : ℕ) → n ≤ leastRoom → n * width ≤ length l → firstRecords l n ≡ from (recordIn l) 0 n
 records-known l n m h =
     let z : min n leastRoom ≡ n = omega arith in
-    rw z (upto-known l 0 (n - 0) (omega arith))
+    rw z (from-same (recordAt l) (recordIn l) 0 n (λ j a b. rw (lt-ltb j (length l / width) (omega arith)) refl))

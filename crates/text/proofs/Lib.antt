@@ -6,3 +6,4 @@ pub mod AnswerLaws
 pub mod PutsLaws
 pub mod FillLaws
 pub mod AverageLaws
+pub mod PriceLaws

@@ -3,6 +3,7 @@ use mathlib.Core.Path.{_≡_, refl, ap, sym, _∙_, subst}
 use mathlib.Core.List.{List, [], _∷_, _++_, append-nil, append-assoc}
 use Prim.Native.Nat.{ℕ, _+_, _*_, _≤_, min}
 use native.Mathlib.Decide.{decLt}
+use native.Mathlib.Nat.{mul-add}
 use native.Mathlib.Omega.{arith}
 use lib.ListN.{length, length-append, take}
 use lib.Seq.{sets, length-sets, take-at}
@@ -56,24 +57,34 @@ puts-from text lent at start r out e p = puts-then [] text lent at lent start r 
 pub one-line : (line : Line) (lent : List ℕ) (at r : ℕ) (out : List ℕ) (n : ℕ) → Puts (lineText line) lent at r out × (length (lineText line) ≤ n) → Puts (linesText (line ∷ [])) lent at r out × (length (linesText (line ∷ [])) ≤ n)
 one-line line lent at r out n p = rw (append-nil (lineText line)) p
 
--- ---- at most a line for each of some things, one behind the other
+-- some lines, then others
+pub lines-then : (ls ms : List Line) (a b : ℕ) (lent : List ℕ) (at : ℕ) (mid : List ℕ) (end r : ℕ) (out : List ℕ) → Puts (linesText ls) lent at end mid × (length (linesText ls) ≤ a) → Puts (linesText ms) mid end r out × (length (linesText ms) ≤ b)
+    → Puts (linesText (ls ++ ms)) lent at r out × (length (linesText (ls ++ ms)) ≤ a + b)
+lines-then ls ms a b lent at mid end r out p q =
+    let k : length (linesText ls ++ linesText ms) ≡ length (linesText ls) + length (linesText ms) = length-append (linesText ls) (linesText ms) in
+    let x = p .1 in
+    let y = q .1 in
+    rw (lines-append ls ms) (puts-then (linesText ls) (linesText ms) lent at mid end r out (p .0) (q .0), omega (arith, k, x, y))
+
+-- ---- at most so many bytes for each of some things, one behind the other
 
 -- those of the first i are put
-pub record EachPut (first : ℕ → List ℕ) (i : ℕ) (lent : List ℕ) (start at : ℕ) (out : List ℕ) : Type 0 where
+pub record EachPut (first : ℕ → List ℕ) (most i : ℕ) (lent : List ℕ) (start at : ℕ) (out : List ℕ) : Type 0 where
   pub puts : Puts (first i) lent start at out
-  pub few : length (first i) ≤ mostLine * i
+  pub few : length (first i) ≤ most * i
 
-module _ (first : ℕ → List ℕ) (lent : List ℕ) (start : ℕ) where
-  pub each-start : (at : ℕ) → first 0 ≡ [] → at ≡ min start (length lent) → EachPut first 0 lent start at lent
+module _ (first : ℕ → List ℕ) (most : ℕ) (lent : List ℕ) (start : ℕ) where
+  pub each-start : (at : ℕ) → first 0 ≡ [] → at ≡ min start (length lent) → EachPut first most 0 lent start at lent
   each-start at z e = record { puts = rw z (puts-none lent start at e); few = rw z (omega arith) }
 
-  pub each-next : (i at : ℕ) (out text : List ℕ) (end : ℕ) (new : List ℕ) → first (i + 1) ≡ first i ++ text → EachPut first i lent start at out → Puts text out at end new × (length text ≤ mostLine)
-      → EachPut first (i + 1) lent start end new
+  pub each-next : (i at : ℕ) (out text : List ℕ) (end : ℕ) (new : List ℕ) → first (i + 1) ≡ first i ++ text → EachPut first most i lent start at out → Puts text out at end new × (length text ≤ most)
+      → EachPut first most (i + 1) lent start end new
   each-next i at out text end new z p q =
       let n : length (first i ++ text) ≡ length (first i) + length text = length-append (first i) text in
+      let m : most * (i + 1) ≡ most * i + most * 1 = mul-add most i 1 in
       let a = p .few in
       let b = q .1 in
-      record { puts = rw z (puts-then (first i) text lent start out at end new (p .puts) (q .0)); few = rw z (omega (arith, n, a, b)) }
+      record { puts = rw z (puts-then (first i) text lent start out at end new (p .puts) (q .0)); few = rw z (omega (arith, n, m, a, b)) }
 
 -- ---- one text behind the other
 

@@ -3,5 +3,6 @@ pub mod Text
 pub mod Buffer
 pub mod OwnCase
 pub mod Averages
+pub mod Prices
 pub mod Answers
 pub mod Outputs

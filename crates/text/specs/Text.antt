@@ -1,12 +1,13 @@
--- Document 01, "Tape", and M-102: the bytes of a line of tapeprint's output.
+-- Document 01, "Tape", and M-102: the bytes of a line of tapeprint's output; M-106: those of live's line of leg prices.
 use mathlib.Core.List.{List, [], _∷_, _++_}
 use Prim.Native.Nat.{ℕ, zero, suc, _+_, _/_, _%_}
 use lib.Dec.{ltb}
 use lib.IntN.{ℤ, pos, negsuc}
 use Rattle.rules.specs.Basics.{pick}
 use Rattle.rules.specs.Turn.{Rank, L, C, N, T, R, Contra, legs, entry, Fill}
+use Rattle.rules.specs.LegPrices.{LegPrices, unpriced, priced}
 use Rattle.rules.specs.Average.{OrderAverage}
-use Rattle.rules.specs.Print.{Line, titleLine, fillLine, averageLine, refusedLine, lastLine}
+use Rattle.rules.specs.Print.{Line, titleLine, fillLine, legsLine, averageLine, refusedLine, lastLine}
 use Rattle.text.specs.Ascii.{ascii}
 
 -- the digit of a number below 10
@@ -51,6 +52,16 @@ fillText f =
     digits (f .number)
     ++ after (digits (f .order) ∷ (rankLetter (f .rank) ∷ []) ∷ digits (contraNumber (f .contra)) ∷ signedDigits (f .price) ∷ digits (f .units) ∷ [])
 
+-- numbers, a space before each
+abbrev pub spaced : List ℕ → List ℕ
+spaced [] = []
+spaced (n ∷ ns) = 32 ∷ (digits n ++ spaced ns)
+
+-- M-106: a record's leg prices, or none
+abbrev pub legsText : LegPrices → List ℕ
+legsText unpriced = ascii "legs" ++ after (ascii "none" ∷ [])
+legsText (priced ps) = ascii "legs" ++ (spaced ps ++ after [])
+
 -- "`average order quotient remainder`"
 abbrev pub averageText : OrderAverage → List ℕ
 averageText a = ascii "average" ++ after (digits (a .order) ∷ signedDigits (a .quotient) ∷ digits (a .remainder) ∷ [])
@@ -59,6 +70,7 @@ averageText a = ascii "average" ++ after (digits (a .order) ∷ signedDigits (a 
 abbrev pub lineText : Line → List ℕ
 lineText titleLine = ascii "number order rank contra price units" ++ after []
 lineText (fillLine f) = fillText f
+lineText (legsLine p) = legsText p
 lineText (averageLine a) = averageText a
 lineText (refusedLine k n) = ascii "refused" ++ after (digits k ∷ digits n ∷ [])
 lineText (lastLine o a) = ascii "open" ++ after (digits o ∷ ascii "answers" ∷ digits a ∷ [])

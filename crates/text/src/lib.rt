@@ -1,4 +1,4 @@
-// The bytes of an output line, of tapeprint (document 01, "Tape", and M-102) or of live, written at the start of a lent buffer; and lines put into an output.
+// The bytes of an output line, of tapeprint (document 01, "Tape", and M-102) or of live (M-106), written at the start of a lent buffer; and lines put into an output.
 ghost use mathlib.Core.Path.{_≡_};
 ghost use mathlib.Core.List.{[], _∷_, _++_};
 ghost use Prim.Native.Nat.{_+_, _*_, _<_, _≤_, min};
@@ -7,22 +7,25 @@ ghost use lib.ListN.{length, take};
 ghost use lib.Seq.{sets};
 ghost use lib.Signed.{ltZ};
 ghost use Rattle.rules.specs.Average.{averagesOf, averages};
-ghost use Rattle.rules.specs.Print.{titleLine, fillLine, averageLine, refusedLine, lastLine, fillLines, averageLines, recordLines};
+ghost use Rattle.rules.specs.Print.{titleLine, fillLine, legsLine, averageLine, refusedLine, lastLine, fillLines, averageLines, recordLines, pricedLines, liveLines};
+ghost use Rattle.rules.specs.LegPrices.{priced};
 ghost use Rattle.rules.specs.Outcome.{Ended};
 ghost use Rattle.rules.specs.Refusals.{leastRoom};
-ghost use Rattle.types.specs.View.{from, rankOf, contraOf, fillOf, causeOf, outcomeOf};
-ghost use Rattle.records.specs.Records.{recordAt};
-ghost use Rattle.text.specs.Text.{digit, digits, signedDigits, rankLetter, contraNumber, after};
+ghost use Rattle.types.specs.View.{from, rankOf, contraOf, fillOf, pricesOf, causeOf, outcomeOf};
+ghost use Rattle.records.specs.Records.{recordAt, pricesAt};
+ghost use Rattle.text.specs.Text.{digit, digits, signedDigits, rankLetter, contraNumber, after, spaced, legsText};
 ghost use Rattle.text.specs.Buffer.{Wrote, Put, Printed};
 ghost use Rattle.text.specs.Answers.{outcomeText, openingText};
 ghost use Rattle.text.specs.Outputs.{mostLine, Puts, PutsLine, PutsLines};
 ghost use Rattle.average.specs.Sums.{firstRecords};
 ghost use Rattle.text.specs.Averages.{averagesAt};
+ghost use Rattle.text.specs.Prices.{firstPrices};
 ghost use Rattle.text.specs.OwnCase.{OwnCaseText};
 use average::Average;
 use types::Cause;
 use types::Contra;
 use types::Fill;
+use types::LegPrices;
 use types::Outcome;
 use types::Rank;
 
@@ -249,6 +252,44 @@ pub fn put_last(out: &mut [u8; 128], orders: u64, answers: u64) -> usize
 
 // ---- the lines of live
 
+// The prices of the first n legs, each behind a space.
+fn put_prices(out: &mut [u8; 128], start: usize, prices: &[u64; 4], n: usize) -> usize
+    requires { ⌜ (length (now out) ≡ 128) × (length (now prices) ≡ 4) × (n ≤ 4) × (start ≤ 43) ⌝ }
+    ensures { λ r. ⌜ Wrote (spaced (take n (now (prices .entry)))) start (now (out .entry)) r (now (out .exit)) × (length (now (out .exit)) ≡ 128) × (r ≤ start + 84) ⌝ }
+{
+    let mut at = start;
+    let mut i = 0;
+    while i < n {
+        at = put_next(out, at, prices[i]);
+        i += 1;
+    }
+    at
+}
+
+// The leg prices of a record that has so many.
+fn put_priced(out: &mut [u8; 128], prices: &[u64; 4], n: u32) -> usize
+    requires { ⌜ (length (now out) ≡ 128) × (length (now prices) ≡ 4) ⌝ }
+    ensures { λ r. ⌜ Put (legsText (priced (take n (now (prices .entry))))) (now (out .entry)) r (now (out .exit)) ⌝ }
+{
+    let count = number::lesser_size(n as usize, 4);
+    let at = put_word(out, 0, b"legs");
+    let at = put_prices(out, at, prices, count);
+    put_byte(out, at, b'\n')
+}
+
+// The leg prices of a record.
+fn put_legs(out: &mut [u8; 128], f: Fill) -> usize
+    requires { ⌜ length (now out) ≡ 128 ⌝ }
+    ensures { λ r. ⌜ Printed (legsLine (pricesOf f)) (now (out .entry)) r (now (out .exit)) ⌝ }
+{
+    let legs = f.legs;
+    let prices = f.prices;
+    match legs {
+        LegPrices::Unpriced => put_word(out, 0, b"legs none\n"),
+        LegPrices::Priced(n) => put_priced(out, &prices, n),
+    }
+}
+
 // The end of an auction, by its cause.
 fn put_ended(out: &mut [u8; 128], cause: Cause, fills: u32) -> usize
     requires { ⌜ length (now out) ≡ 128 ⌝ }
@@ -336,6 +377,38 @@ fn add_fills(list: &[u64], n: usize, out: &mut [u8], start: usize) -> usize
     at
 }
 
+// ---- leg prices behind each record
+
+// The leg prices of a record.
+fn add_legs(out: &mut [u8], at: usize, f: Fill) -> usize
+    ensures { λ r. ⌜ PutsLine (legsLine (pricesOf f)) out at r ⌝ }
+{
+    let mut line = [0u8; 128];
+    let n = put_legs(&mut line, f);
+    add(out, at, &line, n)
+}
+
+// A record, and then its leg prices.
+fn add_both(out: &mut [u8], at: usize, f: Fill) -> usize
+    ensures { λ r. ⌜ PutsLines (fillLine (fillOf f) ∷ legsLine (pricesOf f) ∷ []) (2 * mostLine) out at r ⌝ }
+{
+    let behind = add_fill(out, at, f);
+    add_legs(out, behind, f)
+}
+
+// The first n records of a list, each with its leg prices.
+fn add_priced(list: &[u64], n: usize, out: &mut [u8], start: usize) -> usize
+    ensures { λ r. ⌜ PutsLines (pricedLines (from (recordAt (now (list .entry))) 0 n) (from (pricesAt (now (list .entry))) 0 n)) (2 * mostLine * n) out start r ⌝ }
+{
+    let mut at = number::lesser_size(start, out.len());
+    let mut i = 0;
+    while i < n {
+        at = add_both(out, at, records::fill_at(list, i));
+        i += 1;
+    }
+    at
+}
+
 // ---- averages behind records
 
 // An order's average.
@@ -393,4 +466,16 @@ pub fn add_records(list: &[u64], n: usize, out: &mut [u8], start: usize) -> usiz
     let count = number::lesser_size(n, Fill::LEAST_ROOM);
     let behind = add_fills(list, count, out, start);
     add_averages(list, n, out, behind)
+}
+
+// The same in live, with the leg prices of each record.
+pub fn add_live(list: &[u64], n: usize, out: &mut [u8], start: usize) -> usize
+    ensures { λ r. ⌜ PutsLines (liveLines (firstRecords (now (list .entry)) n) (firstPrices (now (list .entry)) n)) (3 * mostLine * min n leastRoom) out start r ⌝ }
+{
+    if n == 0 {
+        return number::lesser_size(start, out.len());
+    }
+    let count = number::lesser_size(n, Fill::LEAST_ROOM);
+    let end = add_priced(list, count, out, start);
+    add_averages(list, n, out, end)
 }

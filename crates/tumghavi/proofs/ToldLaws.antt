@@ -16,7 +16,7 @@ use Rattle.rules.specs.Step.{Act, goesOn, begins, joining, ends}
 use Rattle.rules.specs.Tape.{Fields, isKind, messageFrom}
 use Rattle.types.specs.View.{outcomeOf}
 use Rattle.engine.specs.declared.Answer.{Answer}
-use Rattle.engine.specs.Steps.{recordsIn, placesIn}
+use Rattle.engine.specs.Steps.{recordsIn, allPricesIn, placesIn}
 use Rattle.state.specs.Layout.{Sized}
 use Rattle.state.specs.View.{stateOf}
 use Rattle.state.proofs.StateLaws.{sized-is}
@@ -116,6 +116,7 @@ told longs words list f longs′ words′ list′ a r h p e =
       outcome = o;
       count = n;
       records = ap (recordsIn list′) c ∙ (rw q at (p .records));
+      prices = ap (allPricesIn list′) c ∙ (rw q at (p .prices));
       behind = rw (sym c) at (p .behind);
       sized = p .sized;
       inside = rw c (p .inside .0);

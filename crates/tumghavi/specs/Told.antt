@@ -15,7 +15,7 @@ use Rattle.rules.specs.Tape.{Fields, messageBytes, fieldsOf}
 use Rattle.state.specs.View.{stateOf}
 use Rattle.state.specs.Lent.{Lent}
 use Rattle.records.specs.Records.{width}
-use Rattle.engine.specs.Steps.{recordsIn}
+use Rattle.engine.specs.Steps.{recordsIn, allPricesIn}
 use Rattle.feed.specs.Replies.{answerOf}
 use Rattle.tumghavi.specs.declared.Outcome.{Outcome}
 use Rattle.tumghavi.specs.declared.Average.{Average}
@@ -63,12 +63,13 @@ places list = length list / width
 abbrev pub toldIn : List ℕ → List ℕ → List ℕ → Fields → R.Answer
 toldIn longs words list f = answerOf (stateOf longs words) f (places list)
 
--- what a message leaves, whole: the state, the outcome, and as many records at the start of the list as it counts; what stands behind them is as it was, and where the outcome is a refusal every number is
+-- what a message leaves, whole: the state, the outcome, and as many records at the start of the list as it counts, with their leg prices; what stands behind them is as it was, and where the outcome is a refusal every number is
 pub record IsTold (longs words list : List ℕ) (f : Fields) (longs′ words′ list′ : List ℕ) (r : Outcome) : Type 0 where
   pub state : stateOf longs′ words′ ≡ toldIn longs words list f .state
   pub outcome : r ≡ numbersOf (toldIn longs words list f .outcome)
   pub count : r .fills ≡ length (toldIn longs words list f .fills)
   pub records : recordsIn list′ (r .fills) ≡ toldIn longs words list f .fills
+  pub prices : allPricesIn list′ (r .fills) ≡ toldIn longs words list f .prices
   pub behind : (i : ℕ) → r .fills * width ≤ i → getD list′ i 0 ≡ getD list i 0
   pub sized : (length longs′ ≡ length longs) × (length words′ ≡ length words) × (length list′ ≡ length list)
   pub inside : r .fills ≤ places list

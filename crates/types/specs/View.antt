@@ -1,8 +1,8 @@
 -- What the engine's types stand for in the rules.
-use mathlib.Core.List.{List, [], _∷_}
+use mathlib.Core.List.{List, [], _∷_, _++_}
 use Prim.Native.Nat.{ℕ, zero, suc, _+_, _-_}
 use lib.Dec.{eqb}
-use lib.ListN.{getD}
+use lib.ListN.{length, getD, take}
 use Rattle.rules.specs.Basics.{pick}
 use Rattle.types.specs.declared.Leg.{Leg}
 use Rattle.types.specs.declared.Settings.{Settings}
@@ -21,6 +21,8 @@ use Rattle.types.specs.declared.Rank.{Rank}
 use Rattle.types.specs.declared.Rank.the-variants.{L as rankL, C as rankC, N as rankN, T as rankT, R as rankR}
 use Rattle.types.specs.declared.Contra.{Contra}
 use Rattle.types.specs.declared.Contra.the-variants.{Legs as contraLegs, Entry as contraEntry}
+use Rattle.types.specs.declared.LegPrices.{LegPrices}
+use Rattle.types.specs.declared.LegPrices.the-variants.{Unpriced as legsUnpriced, Priced as legsPriced}
 use Rattle.types.specs.declared.Fill.{Fill}
 use Rattle.types.specs.declared.Cause.{Cause}
 use Rattle.types.specs.declared.Cause.the-variants.{Time as causeTime, Order as causeOrder, Legs as causeLegs, Cancel as causeCancel}
@@ -31,6 +33,7 @@ use Rattle.rules.specs.Prices as P
 use Rattle.rules.specs.Book as B
 use Rattle.rules.specs.Messages as M
 use Rattle.rules.specs.Turn as U
+use Rattle.rules.specs.LegPrices as G
 use Rattle.rules.specs.Outcome as O
 
 -- ---- tables
@@ -154,6 +157,23 @@ contraOf (contraEntry i) = U.entry i
 -- a fill record
 abbrev pub fillOf : Fill → U.Fill
 fillOf f = record { number = f .number; order = f .order; rank = rankOf (f .rank); contra = contraOf (f .contra); price = f .price; units = f .units }
+
+-- the leg prices of a record, from how many there are and the four numbers beside it
+abbrev pub legPricesOf : LegPrices → List ℕ → G.LegPrices
+legPricesOf legsUnpriced ps = G.unpriced
+legPricesOf (legsPriced n) ps = G.priced (take n ps)
+
+abbrev pub pricesOf : Fill → G.LegPrices
+pricesOf f = legPricesOf (f .legs) (f .prices)
+
+-- how a record holds leg prices: how many there are, and four numbers, 0 behind the prices
+abbrev pub heldLegs : G.LegPrices → LegPrices
+heldLegs G.unpriced = legsUnpriced
+heldLegs (G.priced ps) = legsPriced (length ps)
+
+abbrev pub heldPrices : G.LegPrices → List ℕ
+heldPrices G.unpriced = 0 ∷ 0 ∷ 0 ∷ 0 ∷ []
+heldPrices (G.priced ps) = take 4 (ps ++ (0 ∷ 0 ∷ 0 ∷ 0 ∷ []))
 
 -- the cause of an end
 abbrev pub causeOf : Cause → O.Cause

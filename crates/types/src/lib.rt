@@ -101,6 +101,9 @@ impl Quote {
     pub const MOST_PRICE: u32 = 999_999;
 
     pub const MOST_SIZE: u32 = 999_999;
+
+    // M-106: how far the ask may be above the bid where there are leg prices, in cents.
+    pub const MOST_WIDE: u32 = 50;
 }
 
 // A derived price with its units; 0 units is none.
@@ -213,7 +216,13 @@ pub enum Contra {
     Entry(u32),
 }
 
-// A fill record; the price is in signed cents.
+// M-106: whether a fill record has leg prices, and of how many legs; the prices stand beside it.
+pub enum LegPrices {
+    Unpriced,
+    Priced(u32),
+}
+
+// A fill record; the price is in signed cents. The leg prices are those of the first legs, in cents, 0 behind them.
 pub struct Fill {
     pub number: u64,
     pub price: i64,
@@ -221,6 +230,8 @@ pub struct Fill {
     pub units: u32,
     pub rank: Rank,
     pub contra: Contra,
+    pub legs: LegPrices,
+    pub prices: [u64; 4],
 }
 
 impl Fill {

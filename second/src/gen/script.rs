@@ -96,6 +96,19 @@ pub fn some_legs(random: &mut Random, count: i64) -> Vec<Leg> {
     ratios.iter().enumerate().map(leg).collect()
 }
 
+/// Gives the legs ratios of a range that pass.
+pub fn change_ratios(random: &mut Random, legs: &mut [Leg], range: RangeInclusive<i64>) {
+    loop {
+        let ratio = |_| random.within(range.clone()) as u8;
+        let ratios: Vec<u8> = (0..legs.len()).map(ratio).collect();
+        if ratios_fit(&ratios) {
+            let each = legs.iter_mut().zip(ratios);
+            each.for_each(|(leg, ratio)| leg.ratio = ratio);
+            return;
+        }
+    }
+}
+
 /// A session being written. The engine runs along, so that the next message can fit what is open.
 pub struct Script {
     pub random: Random,

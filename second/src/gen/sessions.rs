@@ -1,9 +1,9 @@
 //! The profiles that stress the messages.
 
 use super::random::Random;
-use super::script::{some_legs, Plan, Script};
+use super::script::{change_ratios, some_legs, Plan, Script};
 use crate::book::Book;
-use crate::strategy::{ratios_fit, Cents, Settings, Side};
+use crate::strategy::{Cents, Settings, Side};
 use crate::tape::{write_tape, Record, KINDS};
 
 /// A session of a plan, with `each` called so many times.
@@ -604,15 +604,7 @@ pub fn ratios(random: &mut Random) -> Vec<u8> {
         leg.ratio = random.within(1..=9) as u8;
     }
     if random.once_in(2) {
-        // Ratios that pass, some of them high.
-        loop {
-            let ratios: Vec<u8> = legs.iter().map(|_| random.within(1..=9) as u8).collect();
-            if ratios_fit(&ratios) {
-                let each = legs.iter_mut().zip(ratios);
-                each.for_each(|(leg, ratio)| leg.ratio = ratio);
-                break;
-            }
-        }
+        change_ratios(random, &mut legs, 1..=9);
     }
     let settings = plan.settings;
     match Script::open_with(random, plan, legs.clone()) {

@@ -37,9 +37,12 @@ planned-requires c κs =
     let S = D .before .before .before .before .before .before .before in
     (S .pre .0, S .pre .1, (refl, λ s. none-at 66 s), contra D)
 
+book-requires : tie.Need-book-requires
+book-requires c κs = search needs
+
 applied-requires : tie.Need-applied-requires
 applied-requires c κs =
-    let P = c .before .before .before .before .before in
+    let P = c .before .before .before .before .before .before .before .before .before .before in
     let D = P .before .before .before .before .before in
     let S = D .before .before .before .before .before .before .before in
     let a = S .args in (
@@ -62,11 +65,12 @@ same-length-3 c = search needs
 returns : tie.Need-returns
 returns c =
     let A = c .before .before .before .before in
-    let P = A .before .before .before .before .before .before in
+    let K = A .before .before .before .before .before .before in
+    let P = K .before .before .before .before .before in
     let D = P .before .before .before .before .before in
     let a = D .before .before .before .before .before .before .before .args in
-    executed-goes (modeOf (a .mode)) (a .longs .now) (a .words .now) (a .list .now) (a .at) (a .k) (A .applied .last .0) (A .applied .last .1 .0) (P .planned .last .1 .1 .0) (P .planned .result .count) (P .planned .last .1 .1 .1 .1 .1 .1 .1 .0) (P .planned .result .units)
-    (P .planned .ensures .1) (A .applied .ensures)
+    executed-goes (modeOf (a .mode)) (a .longs .now) (a .words .now) (a .list .now) (a .at) (a .k) (A .applied .last .0) (A .applied .last .1 .0) (P .planned .last .1 .1 .0) (K .book .last .1 .0) (P .planned .result .count) (P .planned .last .1 .1 .1 .1 .1 .1 .1 .0) (P .planned .result .units) (D .before .before .is-set .result)
+    (P .planned .ensures .1) (D .before .before .is-set .ensures) (K .book .ensures) (A .applied .ensures)
 
 pub execute-spec : {M : Type 1} → statement M
 execute-spec =
@@ -78,6 +82,7 @@ execute-spec =
     is-set-requires
     derived-requires
     planned-requires
+    book-requires
     applied-requires
     same-length
     same-length-2

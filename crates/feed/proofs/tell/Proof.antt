@@ -9,8 +9,8 @@ answer-requires c κs = search needs
 put-outcome-requires : tie.Need-put-outcome-requires
 put-outcome-requires c κs = search needs
 
-add-records-requires : tie.Need-add-records-requires
-add-records-requires c κs = search needs
+add-live-requires : tie.Need-add-live-requires
+add-live-requires c κs = search needs
 
 same-length : tie.Need-same-length
 same-length c = search needs
@@ -31,7 +31,7 @@ returns c =
     let A = O .before .before .before .before .before .before .before .before in
     let S = A .before .before .before .before .before .before .before .before .before in
     let a = S .args in
-    record-told (a .longs .now) (a .words .now) (a .list .now) (a .p .now) (a .out .now) (a .at) _ _ _ _ _ _ _ (A .answer .result) (S .pre .0) (S .pre .1) (A .answer .ensures) (O .put-outcome .ensures) (F .add-records .ensures)
+    record-told (a .longs .now) (a .words .now) (a .list .now) (a .p .now) (a .out .now) (a .at) _ _ _ _ _ _ _ (A .answer .result) (S .pre .0) (S .pre .1) (A .answer .ensures) (O .put-outcome .ensures) (F .add-live .ensures)
 
 pub tell-spec : {M : Type 1} → statement M
 tell-spec =
@@ -39,7 +39,7 @@ tell-spec =
     (tie.spec
     answer-requires
     put-outcome-requires
-    add-records-requires
+    add-live-requires
     same-length
     same-length-2
     same-length-3

@@ -53,8 +53,8 @@ use Rattle.types.proofs.Message.Laws as G′
 use Rattle.types.proofs.Outcome as N
 use Rattle.types.proofs.Outcome.Laws as N′
 use Rattle.engine.specs.declared.Answer.{Answer}
-use Rattle.types.specs.View.{messageOf, fillOf}
-use Rattle.records.specs.Records.{width, recordAt}
+use Rattle.types.specs.View.{messageOf}
+use Rattle.records.specs.Records.{width, recordAt, pricesAt, Holds}
 use Rattle.engine.specs.Steps.{IsStep}
 use Rattle.engine.proofs.Answer as K
 use Rattle.engine.proofs.Answer.Laws as K′
@@ -236,7 +236,7 @@ module _ {M : Type 1} (𝓤 : URA M) (H : Heap 𝓤) (A : Atoms 𝓤) (W : Given
       begins = record { i = 0; zs = ys; as-long = refl; comes-to = stored-first xs′ ys (a .count) in-ys }
 
       -- the turn after t: f was the record at hand
-      abbrev after : (t : Turn) → t .i < a .count → (f : Fill) → fillOf f ≡ recordAt xs′ (t .i) → Turn
+      abbrev after : (t : Turn) → t .i < a .count → (f : Fill) → Holds (recordAt xs′ (t .i)) (pricesAt xs′ (t .i)) f → Turn
       after t l f e = record {
         i = t .i + 1;
         zs = set (t .zs) (t .i) f;
@@ -267,12 +267,12 @@ module _ {M : Type 1} (𝓤 : URA M) (H : Heap 𝓤) (A : Atoms 𝓤) (W : Given
           calls-lent ! fm (FillAt 𝓤 H A mem run) known-fill (to-fill 𝓤 H A mem run W b₃ o₃ xs′ (t .i)) (Kept-shr 𝓤 H A W u64 b₃ o₃ xs′ (FillAt 𝓤 H A mem run) (to-fill 𝓤 H A mem run W b₃ o₃ xs′ (t .i))) (sl₃ ∷ vint w64 (t .i) ∷ []) (λ x. λ j. sliceVal (b₃, o₃) (size .1 .1 .0 j) ∷ vint w64 (t .i) ∷ [])
           (‵ (row u64 fullShare xs′ b₃ o₃)) (pays-fill 𝓤 H A mem run W b₃ o₃ xs′ (t .i) (subst (Room u64) (sym (size .1 .1 .0)) room₃) i-small) (Gets-shr 𝓤 H A W u64 b₃ o₃ xs′ (FillAt 𝓤 H A mem run) (to-fill 𝓤 H A mem run W b₃ o₃ xs′ (t .i)) R (Read 𝓤 H A mem run W b₃ o₃ xs′ (t .i))) (gives-fill 𝓤 H A mem run W b₃ o₃ xs′ (t .i))
           (λ j k. (and-then ! (load ! (from ! (stop !)) (look ! (p 4 (#shown + 1)) refl)) (and-then ! (load ! (from ! (stop !)) (look ! (p 4 #i) refl)) (no-more !)))) (λ v. pick ! (λ f.
-          split ! $ move ! (1 ∷ []) $ heard ! (fillOf f ≡ recordAt xs′ (t .i)) (λ e. split ! $ peeks ! R (Is R) (shows 𝓤 H A R) f (v ∷ []) (λ is.
+          split ! $ move ! (1 ∷ []) $ heard ! (Holds (recordAt xs′ (t .i)) (pricesAt xs′ (t .i)) f) (λ e. split ! $ peeks ! R (Is R) (shows 𝓤 H A R) f (v ∷ []) (λ is.
           land ! (from ! (stop !)) (init ! (p 4 #f) refl (lawful 𝓤 H A W .typed f _ is .0)) $
           -- the store. [what f owns 0; the numbers 1; the list 2; what is set aside 3; the locals from 4]
           assigns ! (bin ! (load ! (from ! (stop !)) (look ! (p 4 #i) refl)) (lit ! tt) (record { fits = o-fits })) (from ! (stop !)) (init ! (p 4 #off) refl (tt, record { fits = o-fits })) $
           assigns ! (bin ! (load ! (from ! (fld ! refl (stop !))) (look-in ! (p 4 4) (sub ! 0 refl (all-of !)))) (load ! (from ! (stop !)) (look ! (p 4 #off) refl)) tt) (from ! (stop !)) (init ! (p 4 #ptr) refl (tt, tt)) $
-          rewrite ! (p 4 #ptr) (λ (y : ℕ). ‵ (fat fullShare tyPtr l₂₀ 0 (vptr b y))) (sym (place-is 40 o (t .i))) refl $
+          rewrite ! (p 4 #ptr) (λ (y : ℕ). ‵ (fat fullShare tyPtr l₂₀ 0 (vptr b y))) (sym (place-is 80 o (t .i))) refl $
           move ! (2 ∷ []) $ elem-out ! R (Is R) (shows 𝓤 H A R) vals tells fullShare (t .zs) (t .i) f b o i-in (λ _.
           -- [fills[i] 0; what it owns 1; the others 2; what f owns 3; the numbers 4; what is set aside 5; the locals from 6]
           assigns ! (of-opd ! (load ! (from ! (stop !)) (look ! (p 6 #f) refl))) (from ! (hop ! (look ! (p 6 #ptr) refl) (stop !))) (store-raw ! 0 refl (lawful 𝓤 H A W .typed f _ is .0)) $
@@ -290,7 +290,7 @@ module _ {M : Type 1} (𝓤 : URA M) (H : Heap 𝓤) (A : Atoms 𝓤) (W : Given
           i-small : t .i < 2 ^ 64
           i-small = omega (arith, some-left, in-ys, room .0)
 
-          o-fits : t .i * 40 < 2 ^ 64
+          o-fits : t .i * 80 < 2 ^ 64
           o-fits = place-fits (length ys) (t .i) (room .1) (omega (arith, some-left, in-ys))
 
           i-fits : t .i + 1 < 2 ^ 64

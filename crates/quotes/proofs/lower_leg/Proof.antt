@@ -1,27 +1,10 @@
-use mathlib.Core.Path.{ap, ap₂, _∙_}
-use mathlib.Core.Bool.{Bool}
-use Prim.Native.Nat.{ℕ, _*_}
-use Rattle.rules.specs.Prices.{usesAsk, lowerQuote}
-use Rattle.types.specs.View.{quoteOf}
-use Rattle.state.specs.View.{legAt}
+use mathlib.Core.Path.{_∙_}
 use borrow.Author.Needs.{needs}
 use Rattle.quotes.proofs.lower_leg.Statement.{statement}
 use Rattle.quotes.proofs.lower_leg.Tie as tie
 
-uses-ask-requires : tie.Need-uses-ask-requires
-uses-ask-requires c κs = search needs
-
-ratio-at-requires : tie.Need-ratio-at-requires
-ratio-at-requires c κs = search needs
-
-times-requires : tie.Need-times-requires
-times-requires c κs = search needs
-
-quote-at-requires : tie.Need-quote-at-requires
-quote-at-requires c κs = search needs
-
-lower-quote-requires : tie.Need-lower-quote-requires
-lower-quote-requires c κs = search needs
+lowered-at-requires : tie.Need-lowered-at-requires
+lowered-at-requires c κs = search needs
 
 put-quote-requires : tie.Need-put-quote-requires
 put-quote-requires c κs = search needs
@@ -30,31 +13,7 @@ same-length : tie.Need-same-length
 same-length c = search needs
 
 returns : tie.Need-returns
-returns c =
-    let P = c .before .before in
-    let R = P .before .before in
-    let T = R .before .before .before in
-    let U = T .before .before .before in
-    let a = U .before .before .before .args in
-    let l = legAt (a .words .now) (a .k) in
-    let e = P .put-quote .ensures in
-    record {
-      kept = e .kept;
-      here = e .here ∙ P .before .lower-quote .ensures
-          ∙ ap₂ (λ (b : Bool) (n : ℕ). lowerQuote b n (quoteOf (R .quote-at .result))) (U .uses-ask .ensures) (T .times .ensures .0 ∙ ap (λ (x : ℕ). x * a .units) (T .before .ratio-at .ensures))
-          ∙ ap (lowerQuote (usesAsk (a .ask) l) (l .ratio * a .units)) (R .quote-at .ensures);
-      there = e .there;
-    }
+returns c = let P = c .before .before in let e = P .put-quote .ensures in record { kept = e .kept; here = e .here ∙ P .before .lowered-at .ensures; there = e .there }
 
 pub lower-leg-spec : {M : Type 1} → statement M
-lower-leg-spec =
-    tie.close
-    (tie.spec
-    uses-ask-requires
-    ratio-at-requires
-    times-requires
-    quote-at-requires
-    lower-quote-requires
-    put-quote-requires
-    same-length
-    returns)
+lower-leg-spec = tie.close (tie.spec lowered-at-requires put-quote-requires same-length returns)

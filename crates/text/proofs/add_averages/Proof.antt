@@ -1,4 +1,5 @@
 use Prim.Native.Nat.{_-_, _≤_}
+use Rattle.text.specs.Outputs.{mostLine}
 use Rattle.text.proofs.AverageLaws.{averagesText, no-averages, averages-more, averages-end}
 use Rattle.text.proofs.PutsLaws.{puts-same, EachPut, each-start, each-next}
 use native.Mathlib.Omega.{arith}
@@ -7,7 +8,7 @@ use Rattle.text.proofs.add_averages.Statement.{statement}
 use Rattle.text.proofs.add_averages.Tie as tie
 
 abbrev Inv-loop : tie.InvT-loop
-Inv-loop list n out₀ start count at₀ i₀ out at i = (i ≤ count) × EachPut (averagesText list n) i out₀ start at out
+Inv-loop list n out₀ start count at₀ i₀ out at i = (i ≤ count) × EachPut (averagesText list n) mostLine i out₀ start at out
 
 abbrev μ-loop : tie.MeasureT-loop
 μ-loop list n out₀ start count at₀ i₀ out at i = count - i
@@ -19,7 +20,7 @@ lesser-size-requires-2 : tie.Need-lesser-size-requires-2 Inv-loop μ-loop
 lesser-size-requires-2 c κs = search needs
 
 loop-holds : tie.Need-loop-holds Inv-loop μ-loop
-loop-holds c = (omega arith, let a = c .before .before .before .before .args in each-start _ _ _ _ (no-averages (a .list .now) (a .n)) (c .lesser-size2 .ensures))
+loop-holds c = (omega arith, let a = c .before .before .before .before .args in each-start _ _ _ _ _ (no-averages (a .list .now) (a .n)) (c .lesser-size2 .ensures))
 
 add-first-requires : tie.Need-add-first-requires Inv-loop μ-loop
 add-first-requires c κs = search needs
@@ -35,7 +36,7 @@ loop-again c =
     let P = c .before .before in
     let L = P .before .before .before in
     let a = L .before .before .before .before .before .args in
-    (omega (arith, P .before .before .loop-test .taken), each-next _ _ _ (L .loop .i) _ _ _ _ _ (averages-more (a .list .now) (a .n) (L .loop .i)) (L .loop .inv .1) (P .add-first .ensures))
+    (omega (arith, P .before .before .loop-test .taken), each-next _ _ _ _ (L .loop .i) _ _ _ _ _ (averages-more (a .list .now) (a .n) (L .loop .i)) (L .loop .inv .1) (P .add-first .ensures))
 
 same-length : tie.Need-same-length Inv-loop μ-loop
 same-length c = let v = c .before .loop .inv .1 .puts in puts-same _ _ _ _ _ v

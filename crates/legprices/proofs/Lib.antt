@@ -1,0 +1,9 @@
+pub mod BitLaws
+pub mod TableLaws
+pub mod SumLaws
+pub mod MadeLaws
+pub mod FoundLaws
+pub mod SearchLaws
+pub mod QuotedLaws
+pub mod RangeLaws
+pub mod PassLaws
