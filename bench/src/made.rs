@@ -288,21 +288,25 @@ struct Market {
     legs: &'static [(u8, u8, Cents, Cents)],
     /// A price in the middle of the legs' nets.
     middle: Cents,
+    /// No more fills than these, as the second program tries all prices.
+    most_fills: usize,
 }
 
 /// Of the last no prices make the middle: its nets are multiples of 9 from one of two numbers on.
 const MARKETS: [Market; 4] = [
-    Market { name: "1:1", legs: &[(b'B', 1, 220, 50), (b'S', 1, 140, 50)], middle: 64 },
-    Market { name: "8:9", legs: &[(b'B', 8, 90, 50), (b'S', 9, 110, 50)], middle: -295 },
+    Market { name: "1:1", legs: &[(b'B', 1, 220, 50), (b'S', 1, 140, 50)], middle: 64, most_fills: usize::MAX },
+    Market { name: "8:9", legs: &[(b'B', 8, 90, 50), (b'S', 9, 110, 50)], middle: -295, most_fills: usize::MAX },
     Market {
         name: "9:8:7:5",
         legs: &[(b'B', 9, 100, 50), (b'S', 8, 200, 50), (b'B', 7, 100, 50), (b'S', 5, 134, 50)],
         middle: -595,
+        most_fills: usize::MAX,
     },
     Market {
         name: "9:9:9:8",
         legs: &[(b'B', 9, 100, 50), (b'S', 9, 194, 50), (b'B', 9, 100, 50), (b'S', 8, 103, 1)],
         middle: -550,
+        most_fills: 32,
     },
 ];
 
@@ -325,7 +329,8 @@ fn booked_case(&(name, responses, apart): &(&str, u32, bool), market: &Market, n
         false => 126,
     };
     let group = |k: u64, more: bool| auction(k, responses, |n| price(n, more));
-    let groups = (most_records(legs.len()) - quotes.len()) / group(0, true).len();
+    let most = (most_records(legs.len()) - quotes.len()) / group(0, true).len();
+    let groups = most.min(market.most_fills / responses as usize);
     let records = |more: bool| (0..groups as u64).flat_map(|k| group(k, more)).collect();
     Case {
         table: "A fill, by its leg prices",
