@@ -2,7 +2,7 @@
 use mathlib.Core.Path.{_≡_, refl, ap, ap₂, sym, subst, _∙_}
 use mathlib.Core.Bool.{Bool, true, _&&_}
 use mathlib.Core.List.{List, [], _∷_, _++_, append-nil}
-use Prim.Native.Nat.{ℕ, zero, suc, _+_, _-_, _*_, _≤_, min}
+use Prim.Native.Nat.{ℕ, zero, suc, _+_, _-_, _≤_, min}
 use native.Mathlib.Omega.{arith}
 use borrow.Author.Tests.{ne-eqb}
 use lib.Dec.{leb}
@@ -13,7 +13,7 @@ use Rattle.rules.specs.Book.{Stage, Entry, isLive}
 use Rattle.rules.specs.State.{Auction, none, pending, State, withMarket, withBook, withAuction, contraPrice, contraPrices}
 use Rattle.rules.specs.Auction.{keeping, gone}
 use Rattle.rules.specs.Turn.{L, T, Offer, sizes, turn, keyOf, Fill}
-use Rattle.rules.specs.LegPrices.{LegPrices, booked}
+use Rattle.rules.specs.LegPrices.{booked}
 use Rattle.rules.specs.Execution.{Mode, fromQueue, goingLive, legsPass, legsLead, offersOf, splitOffers, allUpTo, interest, inside, turnOf, stageAfter, afterTurn, keep, settled, keptAfter, executed, executeIf}
 use Rattle.rules.specs.Step.{recordsOf, pricesOf}
 use Rattle.rules.proofs.BasicsLaws.{sum-zeros}
@@ -24,7 +24,7 @@ use Rattle.types.proofs.TableLaws.{from-length}
 use Rattle.state.specs.Layout as L
 use Rattle.state.specs.View.{entryAt, openCount, entriesOf, legsOf, marketOf, auctionOf, stateOf}
 use Rattle.state.proofs.TableLaws.{from-same}
-use Rattle.records.specs.Records.{width, recordIn, Adds, AddsPriced}
+use Rattle.records.specs.Records.{recordIn, Adds, AddsPriced}
 use Rattle.legprices.specs.Books.{IsBooked}
 use Rattle.quotes.specs.Uses.{mostDerived}
 use Rattle.execution.specs.Reach.{atOrThrough}

@@ -11,7 +11,7 @@ use lib.Seq.{append-snoc}
 use Rattle.rules.specs.Strategy.{Leg}
 use Rattle.rules.specs.Prices.{mostCents, biased, Quote, lower}
 use Rattle.rules.specs.Turn.{Contra, legs, entry, Fill}
-use Rattle.rules.specs.LegPrices.{LegPrices, unpriced, priced, Range, rangesOf, search, legPrices, pricesTaken, legPricesOf, quotesAfter, booked}
+use Rattle.rules.specs.LegPrices.{LegPrices, priced, rangesOf, search, legPrices, pricesTaken, legPricesOf, quotesAfter, booked}
 use Rattle.types.specs.View.{from}
 use Rattle.types.proofs.TableLaws.{from-cons, from-end}
 use Rattle.state.proofs.TableLaws.{from-same, from-join}

@@ -2,15 +2,14 @@
 use mathlib.Core.Path.{_≡_, refl, ap, ap₂, sym, _∙_}
 use mathlib.Core.Bool.{Bool, true, false}
 use mathlib.Core.List.{List, [], _∷_}
-use Prim.Native.Nat.{ℕ, zero, suc, _+_, _-_, _*_, _≤_, _<_, min}
+use Prim.Native.Nat.{ℕ, zero, suc, _+_, _-_, _*_, _≤_, min}
 use native.Mathlib.Decide.{decLt}
 use native.Mathlib.Omega.{arith}
-use borrow.Author.Tests.{lt-ltb, le-ltb}
-use lib.Dec.{ltb}
+use borrow.Author.Tests.{le-ltb}
 use lib.ListN.{getD}
 use Rattle.rules.specs.Basics.{pick}
 use Rattle.rules.specs.Strategy.{Leg}
-use Rattle.rules.specs.Prices.{Side, Quote, usesAsk, used, lowered, lowerQuote, lower}
+use Rattle.rules.specs.Prices.{Side, Quote, usesAsk, lowered, lowerQuote, lower}
 use Rattle.rules.specs.LegPrices.{Range, rangeOf, rangesOf, pricesTaken}
 use Rattle.rules.proofs.MarketLaws.{lower-twice}
 use Rattle.types.specs.View.{from}

@@ -1,7 +1,7 @@
 -- Ranges in arrays: leg prices are found in them where all legs are near, and where one is not there are none.
-use mathlib.Core.Path.{_≡_, refl, ap, ap₂, sym, _∙_}
+use mathlib.Core.Path.{_≡_, refl, ap, sym, _∙_}
 use mathlib.Core.Bool.{Bool, true, false, _&&_, true≢false}
-use mathlib.Core.List.{List, [], _∷_}
+use mathlib.Core.List.{List}
 use mathlib.Core.Logic.{_⊎_, inl, inr, ⊎-elim}
 use Prim.Native.Nat.{ℕ, zero, suc, _+_, _-_, _≤_, _<_}
 use native.Mathlib.Decide.{ℕ-discrete, decLt, decLe}
@@ -9,12 +9,12 @@ use native.Mathlib.Omega.{arith}
 use borrow.Author.Count.{below-more}
 use borrow.Author.Tests.{ne-eqb, lt-ltb, le-leb, lt-leb}
 use lib.Dec.{eqb, leb, ltb}
-use lib.ListN.{length, getD, set, length-set, take}
+use lib.ListN.{length, getD, set, length-set}
 use lib.Seq.{getD-set-same, getD-set-other}
 use Rattle.rules.specs.Basics.{pick}
 use Rattle.rules.specs.Strategy.{mostRatio}
 use Rattle.rules.specs.Prices.{mostCents}
-use Rattle.rules.specs.LegPrices.{LegPrices, unpriced, priced, Range, before, orElse, tries, part, search, mostWide, areNear, legPrices, pricesTaken}
+use Rattle.rules.specs.LegPrices.{LegPrices, unpriced, priced, Range, tries, part, search, mostWide, areNear, legPrices, pricesTaken}
 use Rattle.rules.proofs.TestLaws.{lt-of, le-of, and-left, and-right, and-no}
 use Rattle.types.specs.View.{from}
 use Rattle.types.proofs.TableLaws.{from-cons, from-end, from-take}
@@ -23,8 +23,8 @@ use Rattle.state.specs.View.{flag, legAt, legCount, legsOf, quoteAt}
 use Rattle.quotes.specs.Ranges.{rangeNow}
 use Rattle.records.specs.Records.{pricesFrom}
 use Rattle.legprices.specs.Sums.{Spanned}
-use Rattle.legprices.specs.Ranges.{rangeAt, rangesIn}
-use Rattle.legprices.specs.Quoted.{quotesNow, rangesNow, priceUsed, isNear, Ranged}
+use Rattle.legprices.specs.Ranges.{rangeAt}
+use Rattle.legprices.specs.Quoted.{quotesNow, priceUsed, isNear, Ranged}
 use Rattle.legprices.proofs.QuotedLaws.{rangeNowAt, ranges-each, taken-each}
 
 -- the range of a leg of four

@@ -5,7 +5,7 @@ use mathlib.Core.List.{List}
 use Prim.Native.Nat.{ℕ}
 use lib.ListN.{length}
 use Rattle.rules.specs.Prices.{mostCents, biased, Quote}
-use Rattle.rules.specs.LegPrices.{Range, unpriced, rangesOf, search, legPrices, legPricesOf, quotesAfter}
+use Rattle.rules.specs.LegPrices.{Range, unpriced, search, legPrices, legPricesOf, quotesAfter}
 use Rattle.state.specs.View.{legCount, legsOf}
 use Rattle.records.specs.Records.{recordAt, pricesFrom, Prices}
 use Rattle.legprices.specs.declared.Pass.{Pass}

@@ -1,12 +1,10 @@
 -- The ranges of prices of the legs, in arrays.
 use mathlib.Core.List.{List}
-use Prim.Native.Nat.{ℕ, _+_, _≤_}
-use mathlib.Core.Path.{_≡_}
-use lib.ListN.{length, getD}
-use Rattle.rules.specs.LegPrices.{Range, search}
+use Prim.Native.Nat.{ℕ, _+_}
+use lib.ListN.{getD}
+use Rattle.rules.specs.LegPrices.{Range}
 use Rattle.types.specs.View.{from}
 use Rattle.state.specs.View.{flag}
-use Rattle.records.specs.Records.{mostGiven, pricesFrom}
 
 -- the range of the leg at a place: from its bid so many cents up
 abbrev pub rangeAt : List ℕ → List ℕ → List ℕ → List ℕ → ℕ → Range

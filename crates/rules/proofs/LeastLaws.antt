@@ -1,30 +1,29 @@
 -- M-106: in every answer of every run the leg prices are the least such prices, or none under the three conditions.
 use mathlib.Core.Path.{_≡_, refl, ap, ap₂, sym, subst, _∙_}
 use mathlib.Core.Bool.{Bool, true, false, _&&_, not, true≢false}
-use mathlib.Core.List.{List, [], _∷_, _++_, map}
+use mathlib.Core.List.{List, [], _∷_, map}
 use mathlib.Core.Logic.{_⊎_, inl, inr}
-use Prim.Native.Nat.{ℕ, zero, suc, _+_, _-_, _*_, _≤_, _<_}
-use native.Mathlib.Nat.{mul-add}
+use Prim.Native.Nat.{ℕ, suc, _+_, _-_, _*_, _≤_, _<_}
 use native.Mathlib.Decide.{ℕ-discrete, decLt}
 use native.Mathlib.Omega.{arith}
 use borrow.Author.Tests.{eq-eqb, ne-eqb, lt-ltb, le-ltb, le-leb, lt-leb}
 use lib.Dec.{ltb, leb}
 use lib.IntN.{ℤ, pos, negsuc, negℤ, _+ℤ_}
-use lib.ListN.{length, take, drop}
+use lib.ListN.{length}
 use lib.Seq.{take-append-seam, drop-append-seam}
 use Rattle.rules.specs.Basics.{pick, All}
 use Rattle.rules.specs.Strategy.{Leg, Strategy, isB}
-use Rattle.rules.specs.Prices.{mostCents, mostBiased, cents, biased, Side, Quote, usesAsk, used, lowered, lowerQuote, lower}
+use Rattle.rules.specs.Prices.{mostCents, mostBiased, cents, biased, Side, Quote, usesAsk, lowered, lowerQuote, lower}
 use Rattle.rules.specs.Turn.{Contra, legs, entry, Offer, Fill}
-use Rattle.rules.specs.LegPrices.{LegPrices, unpriced, priced, Range, rangeOf, rangesOf, part, search, areNear, legPrices, pricesTaken, legPricesOf, quotesAfter, booked}
+use Rattle.rules.specs.LegPrices.{LegPrices, unpriced, priced, Range, rangesOf, part, search, areNear, legPrices, pricesTaken, legPricesOf, quotesAfter, booked}
 use Rattle.rules.specs.State.{State, taken}
 use Rattle.rules.specs.Book.{Entry}
 use Rattle.rules.specs.Messages.{Body, Message}
 use Rattle.rules.specs.Refusals.{refusal}
 use Rattle.rules.specs.Execution.{Mode, Turn, turnOf, Reply}
 use Rattle.rules.specs.Step.{Intake, recordsOf, pricesOf, Answer, takeIn, follow, watched, acted, accepted, step}
-use Rattle.rules.specs.Run.{started, opening, Sent, answerTo, answers}
-use Rattle.rules.specs.Demand.{Named, Mark, GoodTurn, mine, others}
+use Rattle.rules.specs.Run.{Sent, answerTo, answers}
+use Rattle.rules.specs.Demand.{Named, Mark, GoodTurn}
 use Rattle.rules.specs.Reached.{Inv}
 use Rattle.rules.specs.LeastPrices.{standing, bidAfter, askAfter, Inside, netOf, Such, Before, Lacks, Wide, Without, Least, Taken, Right, ofLegs, AllRight, PricesTold, AllPriced, LegPricesAreLeastOfRules}
 use Rattle.rules.proofs.TestLaws.{lt-of, le-of, and-left, and-right, pick-if}

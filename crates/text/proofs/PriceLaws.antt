@@ -20,7 +20,7 @@ use Rattle.types.proofs.TableLaws.{from-end, from-last, from-length}
 use Rattle.state.proofs.TableLaws.{from-same}
 use Rattle.records.specs.Records.{width, recordAt, pricesFrom, pricesIn, pricesAt, Holds}
 use Rattle.average.specs.Sums.{firstRecords}
-use Rattle.text.specs.Text.{digits, after, spaced, lineText, linesText}
+use Rattle.text.specs.Text.{digits, spaced, lineText, linesText}
 use Rattle.text.specs.Prices.{firstPrices}
 use Rattle.text.specs.Outputs.{mostLine, Puts}
 use Rattle.text.proofs.PutsLaws.{puts-none, lines-append, lines-then, one-line}

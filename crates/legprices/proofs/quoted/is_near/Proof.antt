@@ -1,6 +1,5 @@
 use native.Mathlib.Omega.{arith}
 use Rattle.legprices.proofs.RangeLaws.{near-without, near-crossed, near-width}
-use borrow.Author.Needs.{needs}
 use Rattle.legprices.proofs.quoted.is_near.Statement.{statement}
 use Rattle.legprices.proofs.quoted.is_near.Tie as tie
 

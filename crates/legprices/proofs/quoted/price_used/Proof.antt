@@ -1,4 +1,4 @@
-use mathlib.Core.Path.{_≡_, sym, _∙_}
+use mathlib.Core.Path.{sym, _∙_}
 use borrow.Author.Needs.{needs}
 use Rattle.legprices.proofs.quoted.price_used.Statement.{statement}
 use Rattle.legprices.proofs.quoted.price_used.Tie as tie
