@@ -1,4 +1,6 @@
 // M-102: the average price of an order over the records of a message, in a lent list. No sum passes 64 bits, whatever the list holds: a sum of price × units stands as quotient and remainder by the order's units.
+#![tactic(auto)]
+
 ghost use Rattle.std.specs.Prelude.{◌≡◌, not, ◌+◌, ◌*◌, ◌<◌, ◌≤◌};
 ghost use Rattle.rules.specs.Prices.{biased};
 ghost use Rattle.rules.specs.Refusals.{least_room};
@@ -11,14 +13,14 @@ ghost use Rattle.average.specs.Parts.{Divides, Fits, whole, Whole, IsAverage};
 use types::Fill;
 
 // "none", or the quotient and the remainder.
-#[derive(Drop)]
+#[derive(Clone, Copy)]
 pub enum Average {
     None,
     Exact(i64, u64),
 }
 
 // A number by its quotient and remainder.
-#[derive(Drop)]
+#[derive(Clone, Copy)]
 struct Parts {
     pub quotient: u64,
     pub remainder: u64,

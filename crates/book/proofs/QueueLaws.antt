@@ -67,24 +67,24 @@ module _ (buy : Bool) (p : ℕ) where
           rw z (ahead (better buy a.price e.price) q refl)
 
   -- the first of the queue
-  abbrev frontIn : List Entry → Front
-  frontIn es = front_of (first_in (queue es))
+  abbrev front_in : List Entry → Front
+  front_in es = front_of (first_in (queue es))
 
-  front-one : (e : Entry) (es : List Entry) → is_queued e.stage ≡ true → frontIn (e ∷ es) ≡ front_with e (frontIn es)
+  front-one : (e : Entry) (es : List Entry) → is_queued e.stage ≡ true → front_in (e ∷ es) ≡ front_with e (front_in es)
   unfolding only by_price
   front-one e es h = rw h (sym (front_put e (queue es)))
 
-  front-other : (e : Entry) (es : List Entry) → is_queued e.stage ≡ false → frontIn (e ∷ es) ≡ frontIn es
+  front-other : (e : Entry) (es : List Entry) → is_queued e.stage ≡ false → front_in (e ∷ es) ≡ front_in es
   unfolding only
   front-other e es h = rw h
 
-  agrees : (es : List Entry) → any (is_across buy) es ≡ false → Agrees (frontIn es) (any (is_unbeaten buy p) es)
+  agrees : (es : List Entry) → any (is_across buy) es ≡ false → Agrees (front_in es) (any (is_unbeaten buy p) es)
   unfolding only by_price
   agrees [] h = record { side = λ z. let y : ◌≡◌ {A = ℕ} 0 1 = cc in absurd (omega arith); beaten = λ z. let y : ◌≡◌ {A = ℕ} 0 1 = cc in absurd (omega arith); none = λ z. refl }
   agrees (e ∷ es) h = let n = neither (is_across buy e) (any (is_across buy) es) h in by (is_queued e.stage) refl n.0 (agrees es n.1)
     where
-      by : (q : Bool) → is_queued e.stage ≡ q → is_across buy e ≡ false → Agrees (frontIn es) (any (is_unbeaten buy p) es) → Agrees (frontIn (e ∷ es)) (any (is_unbeaten buy p) (e ∷ es))
-      by true q n g = rw (front-one e es q, q) (with-one (frontIn es) (any (is_unbeaten buy p) es) e g (same_is buy e.buy (not-false _ (rw q at n))))
+      by : (q : Bool) → is_queued e.stage ≡ q → is_across buy e ≡ false → Agrees (front_in es) (any (is_unbeaten buy p) es) → Agrees (front_in (e ∷ es)) (any (is_unbeaten buy p) (e ∷ es))
+      by true q n g = rw (front-one e es q, q) (with-one (front_in es) (any (is_unbeaten buy p) es) e g (same_is buy e.buy (not-false _ (rw q at n))))
       by false q n g = rw (front-other e es q, q) g
 
   -- with one more there is a first
@@ -96,19 +96,19 @@ module _ (buy : Bool) (p : ℕ) where
       by true false q = refl
       by false d q = refl
 
-  there : (es : List Entry) → (frontIn es).there ≡ any (λ e. is_queued e.stage) es
+  there : (es : List Entry) → (front_in es).there ≡ any (λ e. is_queued e.stage) es
   unfolding only by_price
   there [] = refl
   there (e ∷ es) = by (is_queued e.stage) refl (there es)
     where
-      by : (q : Bool) → is_queued e.stage ≡ q → (frontIn es).there ≡ any (λ e. is_queued e.stage) es → (frontIn (e ∷ es)).there ≡ (q || any (λ e. is_queued e.stage) es)
-      by true q h = ap (λ (a : Front). a.there) (front-one e es q) ∙ some e (frontIn es)
+      by : (q : Bool) → is_queued e.stage ≡ q → (front_in es).there ≡ any (λ e. is_queued e.stage) es → (front_in (e ∷ es)).there ≡ (q || any (λ e. is_queued e.stage) es)
+      by true q h = ap (λ (a : Front). a.there) (front-one e es q) ∙ some e (front_in es)
       by false q h = ap (λ (a : Front). a.there) (front-other e es q) ∙ h
 
   -- better than the first's limit, and so than all
   pub beats-all : (es : List Entry) → any (is_across buy) es ≡ false → (any (λ e. is_queued e.stage) es && not (any (is_unbeaten buy p) es)) ≡ beats_found buy p (first_in (queue es))
-  beats-all es h = rw (← there es) (by (frontIn es).there refl (agrees es h)) ∙ front_beats buy p (first_in (queue es))
+  beats-all es h = rw (← there es) (by (front_in es).there refl (agrees es h)) ∙ front_beats buy p (first_in (queue es))
     where
-      by : (t : Bool) → (frontIn es).there ≡ t → Agrees (frontIn es) (any (is_unbeaten buy p) es) → (t && not (any (is_unbeaten buy p) es)) ≡ (t && better buy p (frontIn es).price)
+      by : (t : Bool) → (front_in es).there ≡ t → Agrees (front_in es) (any (is_unbeaten buy p) es) → (t && not (any (is_unbeaten buy p) es)) ≡ (t && better buy p (front_in es).price)
       by true q g = g.beaten q
       by false q g = refl

@@ -7,7 +7,7 @@ use Rattle.rules.specs.State.{State}
 use Rattle.types.specs.View.{from, stage_of}
 use Rattle.state.specs.Layout as L
 use Rattle.state.specs.View.{open_count}
-use Rattle.state.specs.Lent.{Lent, Tells}
+use Rattle.state.specs.Lent.{Lent, LentMut, Tells}
 use Rattle.book.specs.declared.Front.{Front}
 
 -- ---- one entry
@@ -53,5 +53,5 @@ abbrev pub picked : (ℕ → Entry) → List ℕ → ℕ → List Entry
 picked f places n = from (λ i. f (get_or places i 0)) 0 n
 
 -- the first r of the list are the ids that f gives of the state
-abbrev pub Lists : Lent → Lent → ℕ → (State → List ℕ) → Type 0
+abbrev pub Lists : Lent → LentMut → ℕ → (State → List ℕ) → Type 0
 Lists words out r f = (r ≤ 64) × (length out.exit.now ≡ 64) × Tells words (λ s. take r out.exit.now ≡ f s)

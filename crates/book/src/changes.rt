@@ -222,7 +222,7 @@ pub fn reduce(words: &mut [u32], id: u32, units: u32)
 }
 
 // What stands under an id: whether there is an entry, and the entry.
-#[derive(Drop)]
+#[derive(Clone, Copy)]
 pub struct Sought {
     pub there: bool,
     pub entry: Entry,
@@ -231,7 +231,7 @@ pub struct Sought {
 // The entry under an id, one of zeros where there is none; and the book without it.
 pub fn take_out(longs: &mut [u64], words: &mut [u32], id: u32) -> Sought
     requires { Sized longs.old words.old }
-    ensures { TellsBoth longs words (λ s. find id s.book ≡ pick result.there (found (entry_of result.entry)) nobody) × Becomes longs words (λ s. with_book s (without id s.book)) }
+    ensures { TellsBoth longs.old words.old (λ s. find id s.book ≡ pick result.there (found (entry_of result.entry)) nobody) × Becomes longs words (λ s. with_book s (without id s.book)) }
 {
     let m = state::open_count(words);
     let k = find(words, id);

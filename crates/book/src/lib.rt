@@ -1,4 +1,6 @@
 // The open orders and responses: what is asked of them. Each question is a scan of the book's columns in the lent words.
+#![tactic(auto)]
+
 ghost use Rattle.std.specs.Prelude.{◌≡◌, true, ◌&&◌, ◌||◌, not, List, ℕ, ◌<◌, ◌≤◌, eqb, ltb};
 ghost use Rattle.rules.specs.Basics.{pick};
 ghost use Rattle.rules.specs.Filter.{beyond};
@@ -131,7 +133,7 @@ fn entry_at(longs: &[u64], words: &[u32], k: usize) -> Entry
 }
 
 // What stands under an id and a participant.
-#[derive(Drop)]
+#[derive(Clone, Copy)]
 pub struct Standing {
     pub order: bool,
     pub response: bool,
@@ -183,7 +185,7 @@ pub fn standing_of(words: &[u32], id: u32, participant: u32) -> Standing
 
 // How many orders and how many responses are open, as hosts are told.
 #[repr(C)]
-#[derive(Drop)]
+#[derive(Clone, Copy)]
 pub struct Counts {
     pub orders: usize,
     pub responses: usize,
@@ -299,7 +301,7 @@ pub fn near_live(words: &[u32], buy: bool, price: u32, distance: u32) -> bool
 const MOST_WORD: u64 = 4_294_967_295;
 
 // The first of a queue: whether there is one, its side and its limit.
-#[derive(Drop)]
+#[derive(Clone, Copy)]
 struct Front {
     there: bool,
     buy: bool,
@@ -342,7 +344,7 @@ fn first_queued(words: &[u32]) -> Front
 }
 
 // What the queue is to a price of one side: whether there is an order, whether one is on the other side, and whether the price is not strictly better than one's limit.
-#[derive(Drop)]
+#[derive(Clone, Copy)]
 struct Against {
     there: bool,
     other: bool,

@@ -1,4 +1,6 @@
 // Document 02, M-104: third Fridays, by "a calculation from year and month".
+#![tactic(auto)]
+
 ghost use Rattle.std.specs.Prelude.{◌≡◌};
 ghost use Rattle.rules.specs.Series.{is_third_friday, third_friday};
 

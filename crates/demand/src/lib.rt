@@ -1,4 +1,6 @@
 // Demand 3, M-101 to M-103 and M-106, of the engine's own records and state over the whole list of messages: of whatever keeps the contracts of `open`, `step`, `apply` and `average_of`.
+#![tactic(auto)]
+
 ghost use Rattle.demand.specs.Engine.{Demand3, RecordsByArrival, AveragesAreExact, LegsKept, LegPricesAreLeast, ListIsFixed};
 
 // At every order's turn to execute the records are the best way to fill it.

@@ -9,7 +9,7 @@ use Rattle.rules.specs.Step as R
 use Rattle.types.specs.View.{from, outcome_of}
 use Rattle.state.specs.Layout.{is_sized}
 use Rattle.state.specs.View.{state_of}
-use Rattle.state.specs.Lent.{Lent}
+use Rattle.state.specs.Lent.{LentMut}
 use Rattle.records.specs.Records.{width, record_in, prices_in, AddsPriced}
 use Rattle.engine.specs.declared.Answer.{Answer}
 
@@ -52,9 +52,9 @@ pub record IsStep (longs words list : List ℕ) (m : Message) (room : ℕ) (long
   pub refused : 0 < refusal_in longs words list m room → (longs' ≡ longs) × (words' ≡ words) × (list' ≡ list)
 
 -- both said of the lent slices, for contracts
-abbrev pub Accepts : Lent → Lent → Lent → Message → Answer → Type 0
+abbrev pub Accepts : LentMut → LentMut → LentMut → Message → Answer → Type 0
 Accepts longs words list m r = IsAccepted longs.entry.now words.entry.now list.entry.now m longs.exit.now words.exit.now list.exit.now r
 
-abbrev pub Steps : Lent → Lent → Lent → Message → ℕ → Answer → Type 0
+abbrev pub Steps : LentMut → LentMut → LentMut → Message → ℕ → Answer → Type 0
 Steps longs words list m room r =
     IsStep longs.entry.now words.entry.now list.entry.now m room longs.exit.now words.exit.now list.exit.now r

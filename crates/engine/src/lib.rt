@@ -1,4 +1,6 @@
 // Document 01, "Order and auction life": one message, from its refusal or intake to its answer. The state is changed in place, and the fill records are written into the lent list.
+#![tactic(auto)]
+
 ghost use Rattle.std.specs.Prelude.{◌≡◌, ◌*◌, ◌≤◌, ◌<◌, length, get_or};
 ghost use Rattle.rules.specs.Strategy.{most_number, most_time};
 ghost use Rattle.rules.specs.State.{State, taken};
@@ -22,7 +24,7 @@ use types::{Body, Cause, Message, Outcome, Refusal};
 mod route;
 
 // How many records a message has, and its outcome.
-#[derive(Drop)]
+#[derive(Clone, Copy)]
 pub struct Answer {
     pub count: usize,
     pub outcome: Outcome,
@@ -58,7 +60,7 @@ fn follow(longs: &mut [u64], words: &mut [u32], list: &mut [u64], act: u8) -> us
 // "Begun (deadline)".
 fn deadline(longs: &[u64], words: &[u32]) -> u64
     requires { Sized longs.now words.now }
-    ensures { TellsBoth longs words (λ s. result ≡ deadline_of s.auction) }
+    ensures { TellsBoth longs.now words.now (λ s. result ≡ deadline_of s.auction) }
 {
     if state::is_set(words[Auction::PENDING]) {
         return longs[Auction::DEADLINE];
@@ -103,7 +105,7 @@ fn ended(act: u8, count: u32) -> Outcome
 // The outcome of an accepted message, by what it did, the state after it and its fill count.
 fn outcome_of(longs: &[u64], words: &[u32], b: Body, act: u8, count: usize) -> Outcome
     requires { Sized longs.now words.now × (count ≤ least_room) }
-    ensures { TellsBoth longs words (λ s. outcome_of result ≡ answer_of (body_of b) (act_of act) s count) }
+    ensures { TellsBoth longs.now words.now (λ s. outcome_of result ≡ answer_of (body_of b) (act_of act) s count) }
 {
     let n = count as u32;
     if act == Act::GOES_ON {

@@ -136,25 +136,25 @@ cleared (suc n) (g ∷ gave) (u ∷ us) e h z = ap₂ (λ (x : ℕ) (l : List �
 -- ---- the records of those at tier k: those of the first i slots are written
 
 module _ (o : Order) (longs words ps us : List ℕ) (k i : ℕ) (gs : List ℕ) (x : ℕ) (h : i < length gs) (r : get_or ps i 0 % 8 ≤ 4) where
-  abbrev fillsTo : ℕ → List ℕ → List Fill
-  fillsTo j hs = fills_at o.number o.id k (offers_in longs words o.legs ps us j) (take j hs)
+  abbrev fills_to : ℕ → List ℕ → List Fill
+  fills_to j hs = fills_at o.number o.id k (offers_in longs words o.legs ps us j) (take j hs)
 
   abbrev offer : Offer
   offer = offer_in longs words o.legs ps us i
 
-  fills-more : fillsTo i gs ++ pick (eqb (tier offer) k && ltb 0 x) (fill_of o.number o.id offer x ∷ []) [] ≡ fillsTo (i + 1) (set gs i x)
+  fills-more : fills_to i gs ++ pick (eqb (tier offer) k && ltb 0 x) (fill_of o.number o.id offer x ∷ []) [] ≡ fills_to (i + 1) (set gs i x)
   fills-more =
       let z : i - 0 ≡ i = omega arith in
       let l : length (offers_in longs words o.legs ps us i) ≡ length (take i gs) = from-length (offer_in longs words o.legs ps us) 0 i ∙ z ∙ sym (length-take-le i gs (omega arith)) in
       rw (from_last (offer_in longs words o.legs ps us) i, add-one, take-suc-set gs i x h) (sym (fills-last o.number o.id k (offers_in longs words o.legs ps us i) (take i gs) offer x l))
 
-  pub adds-yes : {old list list' : List ℕ} {at w w' : ℕ} → get_or ps i 0 ≡ k → Adds old at list w (fillsTo i gs) → Adds list w list' w' (slot_records o.number o.id o.legs words (k % 8) i x) → Adds old at list' w' (fillsTo (i + 1) (set gs i x))
+  pub adds-yes : {old list list' : List ℕ} {at w w' : ℕ} → get_or ps i 0 ≡ k → Adds old at list w (fills_to i gs) → Adds list w list' w' (slot_records o.number o.id o.legs words (k % 8) i x) → Adds old at list' w' (fills_to (i + 1) (set gs i x))
   adds-yes {old} {list} {list'} {at} {w} {w'} e p q =
-      rw (← fills-more, eq-eqb (tier offer) k (tier-is longs words o.legs ps us i r ∙ e)) (adds_then old list list' at w w' (fillsTo i gs) (slot_records o.number o.id o.legs words (get_or ps i 0 % 8) i x) p (rw e q))
+      rw (← fills-more, eq-eqb (tier offer) k (tier-is longs words o.legs ps us i r ∙ e)) (adds_then old list list' at w w' (fills_to i gs) (slot_records o.number o.id o.legs words (get_or ps i 0 % 8) i x) p (rw e q))
 
-  pub adds-no : {old list : List ℕ} {at w : ℕ} → x ≡ get_or gs i 0 → (get_or ps i 0 ≡ k → ⊥) → Adds old at list w (fillsTo i gs) → Adds old at list w (fillsTo (i + 1) gs)
+  pub adds-no : {old list : List ℕ} {at w : ℕ} → x ≡ get_or gs i 0 → (get_or ps i 0 ≡ k → ⊥) → Adds old at list w (fills_to i gs) → Adds old at list w (fills_to (i + 1) gs)
   adds-no {old} {list} {at} {w} q e p =
-      let z : fillsTo (i + 1) (set gs i x) ≡ fillsTo (i + 1) gs = ap (fillsTo (i + 1)) (rw q (set-get_or gs i 0)) in
+      let z : fills_to (i + 1) (set gs i x) ≡ fills_to (i + 1) gs = ap (fills_to (i + 1)) (rw q (set-get_or gs i 0)) in
       rw (← z, ← fills-more, ne_eqb (tier offer) k (λ y. e (sym (tier-is longs words o.legs ps us i r) ∙ y)), append-nil) p
 
 -- ---- one record

@@ -8,7 +8,7 @@ use Rattle.rules.specs.Execution.{Mode, inside, turn_of}
 use Rattle.state.specs.Layout as L
 use Rattle.state.specs.Layout.{WordsSized}
 use Rattle.state.specs.View.{entry_at, open_count, state_of}
-use Rattle.state.specs.Lent.{Lent}
+use Rattle.state.specs.Lent.{Lent, LentMut}
 use Rattle.records.specs.Records.{most_given, rank_from, Adds, Writes}
 use Rattle.execution.specs.Slots.{offers_in, Ranked}
 use Rattle.execution.specs.declared.Order.{Order}
@@ -34,7 +34,7 @@ abbrev pub Slotted : List ℕ → List ℕ → Order → ℕ → Type 0
 Slotted words tiers o n = WordsSized words × (o.legs ≤ most_given) × (n ≤ 66) × (length tiers ≡ 66) × Ranked n tiers
 
 -- the records of those at tier k are added, by their grants: neither arrivals nor units are read
-abbrev pub WritesAt : ℕ → Lent → Lent → ℕ → ℕ → Order → Lent → ℕ → Lent → Type 0
+abbrev pub WritesAt : ℕ → Lent → LentMut → ℕ → ℕ → Order → Lent → ℕ → LentMut → Type 0
 WritesAt k words list at r o tiers n gave =
     (longs units : List ℕ) → Writes list at r (fills_at o.number o.id k (offers_in longs words.entry.now o.legs tiers.entry.now units n) (take n gave.exit.now))
 
@@ -63,7 +63,7 @@ TurnedAt m longs words k gave took old at new r =
     Turned ((state_of longs words).clock.next - 1) o.id o.units (inside m (state_of longs words) o) (take (open_count words + 2) gave) took old at new r
 
 -- the same said of what is lent, for a contract
-abbrev pub Turns : Mode → Lent → Lent → ℕ → Lent → ℕ → Lent → ℕ → ℕ → Type 0
+abbrev pub Turns : Mode → Lent → Lent → ℕ → LentMut → ℕ → LentMut → ℕ → ℕ → Type 0
 Turns m longs words k gave took list at r =
     (length gave.exit.now ≡ 66) × TurnedAt m longs.entry.now words.entry.now k gave.exit.now took list.entry.now at list.exit.now r
 

@@ -1,4 +1,6 @@
 // Document 01, "Execution": one order's turn in the lent state, its records written into the lent list as they come; and the turns of the orders under some ids.
+#![tactic(auto)]
+
 ghost use Rattle.std.specs.Prelude.{◌≡◌, true, ◌&&◌, List, [], ◌∷◌, ℕ, ◌+◌, ◌-◌, ◌%◌, ◌<◌, ◌≤◌, eqb, ltb, leb, length, take};
 ghost use Rattle.rules.specs.Basics.{pick, sum};
 ghost use Rattle.rules.specs.Turn.{is_shared, deal};
@@ -102,7 +104,7 @@ fn total_at(tiers: &[u32; 66], units: &[u32; 66], n: usize, k: u32) -> u64
 // ---- what the slots at one tier give
 
 // The order whose turn it is: the number of the message that executes it, its id and units, and the legs' price for it.
-#[derive(Drop)]
+#[derive(Clone, Copy)]
 struct Order {
     pub number: u64,
     pub id: u32,
@@ -204,7 +206,7 @@ fn give_part(
 // ---- a turn
 
 // How many records the list has after a turn, and the units that the order took.
-#[derive(Drop)]
+#[derive(Clone, Copy)]
 struct Taken {
     pub count: usize,
     pub units: u32,

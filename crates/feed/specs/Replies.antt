@@ -8,7 +8,7 @@ use Rattle.rules.specs.Tape.{message_bytes, Fields, fields_of, is_kind, message_
 use Rattle.rules.specs.Print.{live_lines}
 use Rattle.types.specs.View.{outcome_of}
 use Rattle.state.specs.View.{state_of}
-use Rattle.state.specs.Lent.{Lent}
+use Rattle.state.specs.Lent.{Lent, LentMut}
 use Rattle.records.specs.Records.{width}
 use Rattle.engine.specs.declared.Answer.{Answer}
 use Rattle.engine.specs.Steps.{records_in, all_prices_in, places_in}
@@ -110,13 +110,13 @@ pub record Runs (input : List ℕ) (p : Cursor) (most : ℕ) (s : State) (lent :
 
 -- ---- the same for contracts
 
-abbrev pub Answers : Lent → Lent → Lent → Fields → ℕ → Answer → Type 0
+abbrev pub Answers : LentMut → LentMut → LentMut → Fields → ℕ → Answer → Type 0
 Answers longs words list f room r = IsAnswer longs.entry.now words.entry.now list.entry.now f room longs.exit.now words.exit.now list.exit.now r
 
-abbrev pub Tells : Lent → Lent → Lent → Lent → ℕ → List ℕ → ℕ → Type 0
+abbrev pub Tells : LentMut → LentMut → LentMut → LentMut → ℕ → List ℕ → ℕ → Type 0
 Tells longs words list out at p r =
     IsTold longs.entry.now words.entry.now list.entry.now p out.entry.now at longs.exit.now words.exit.now list.exit.now out.exit.now r
 
-abbrev pub IsRun : Lent → Lent → Lent → Lent → Cursor → ℕ → Cursor → Type 0
+abbrev pub IsRun : LentMut → LentMut → LentMut → Lent → Cursor → ℕ → Cursor → Type 0
 IsRun longs words out input p most r =
     Runs input.entry.now p most (state_of longs.entry.now words.entry.now) out.entry.now (state_of longs.exit.now words.exit.now) r out.exit.now

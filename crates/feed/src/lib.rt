@@ -1,4 +1,6 @@
 // What a host and live are answered, from the fields or the bytes of a record. The state is changed in place, the records are written into the lent list, and the bytes of the answers into a lent output.
+#![tactic(auto)]
+
 ghost use Rattle.std.specs.Prelude.{◌*◌, ◌≤◌, length};
 ghost use Rattle.rules.specs.Refusals.{least_room};
 ghost use Rattle.rules.specs.Tape.{header_bytes, fields_of as fields_in};
@@ -19,7 +21,7 @@ use types::{Fill, Outcome, Refusal};
 const RECORD: usize = Section::MESSAGE as usize;
 
 // Between two records of an input: how many are behind, and the offset in the output.
-#[derive(Drop)]
+#[derive(Clone, Copy)]
 pub struct Cursor {
     pub position: usize,
     pub at: usize,

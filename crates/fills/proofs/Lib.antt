@@ -1,9 +1,3 @@
-pub mod Lent
-pub mod Buffers
-pub mod Shared
-pub mod Locals
-pub mod FillRow
 pub mod StoredLaws
 pub mod ListLaws
 pub mod AppliedLaws
-pub mod Callees

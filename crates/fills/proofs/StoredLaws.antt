@@ -3,9 +3,7 @@ use mathlib.Core.Path.{◌≡◌, refl, sym, ap, ◌∙◌}
 use Rattle.rules.specs.Turn as U
 use Rattle.rules.specs.LegPrices.{LegPrices}
 use Rattle.types.specs.declared.Rank.{Rank}
-use Rattle.types.specs.declared.Rank.TheVariants as Rank
 use Rattle.types.specs.declared.Contra.{Contra}
-use Rattle.types.specs.declared.Contra.TheVariants as Contra
 use Rattle.types.specs.declared.Fill.{Fill}
 use Rattle.types.specs.View.{rank_of, contra_of, fill_of, held_legs, held_prices}
 use Rattle.records.specs.Records.{Holds}

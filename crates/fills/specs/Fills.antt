@@ -4,9 +4,7 @@ use Rattle.rules.specs.Turn as U
 use Rattle.rules.specs.LegPrices.{LegPrices}
 use Rattle.rules.specs.Messages.{Message}
 use Rattle.types.specs.declared.Rank.{Rank}
-use Rattle.types.specs.declared.Rank.TheVariants as Rank
 use Rattle.types.specs.declared.Contra.{Contra}
-use Rattle.types.specs.declared.Contra.TheVariants as Contra
 use Rattle.types.specs.declared.Fill.{Fill}
 use Rattle.types.specs.declared.Outcome.{Outcome}
 use Rattle.types.specs.View.{outcome_of, held_legs, held_prices}

@@ -1,4 +1,6 @@
 // A message is applied over lent slices, and its fill records are written into a lent list of structs.
+#![tactic(auto)]
+
 ghost use Rattle.types.specs.View.{message_of};
 ghost use Rattle.fills.specs.Fills.{IsApplied};
 

@@ -4,12 +4,12 @@ use Rattle.rules.specs.Tape.{header_bytes, leg_bytes, message_bytes, Header}
 use Rattle.rules.specs.Spelling as R
 use Rattle.rules.specs.Spelling.{little_endian, meant_from, messages_form}
 use Rattle.types.specs.View.{upto}
-use Rattle.state.specs.Lent.{Lent}
+use Rattle.state.specs.Lent.{Lent, LentMut}
 use Rattle.text.specs.Buffer.{Wrote}
 use Rattle.form.specs.declared.Reply.{Reply}
 
 -- the bytes stand from an offset on, n of them, and r is the offset behind them
-abbrev pub Writes : List ℕ → ℕ → Lent → ℕ → ℕ → Type 0
+abbrev pub Writes : List ℕ → ℕ → LentMut → ℕ → ℕ → Type 0
 Writes bytes n out at r = Wrote bytes at out.entry.now r out.exit.now × (length out.exit.now ≡ length out.entry.now) × (r ≡ at + n)
 
 -- n bytes of a tape from an offset on
@@ -42,5 +42,5 @@ abbrev pub reply_of : Reply → R.Reply
 reply_of r = record { number = r.number; size = r.size }
 
 -- what a writer gives for a tape and a lent buffer, and the buffer then
-abbrev pub Formed : Lent → Lent → Reply → Type 0
+abbrev pub Formed : Lent → LentMut → Reply → Type 0
 Formed tape out r = (reply_of r ≡ R.reply_to tape.entry.now out.entry.now) × (out.exit.now ≡ R.buffer_after tape.entry.now out.entry.now)

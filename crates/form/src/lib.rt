@@ -1,4 +1,6 @@
 // Document 02, M-100: the written form of a tape, in a lent buffer. Bytes are copied under the reader's table of fields, and no number is read and written again but the messages' offset.
+#![tactic(auto)]
+
 ghost use Rattle.std.specs.Prelude.{◌≡◌, [], ◌∷◌, ◌++◌, ◌+◌, ◌-◌, ◌*◌, ◌≤◌, length, drop};
 ghost use Rattle.rules.specs.Tape.{leg_bytes};
 ghost use Rattle.rules.specs.Spelling.{little_endian, meant_from, messages_form};
@@ -246,7 +248,7 @@ fn put_form(out: &mut [u8], tape: &[u8], h: Header, rows: &[u8]) -> usize
 
 // What a writer gives: the number that turns the tape or the buffer back, 0 for none, and how many bytes the form has, 0 where it is not written.
 #[repr(C)]
-#[derive(Drop)]
+#[derive(Clone, Copy)]
 pub struct Reply {
     pub number: u32,
     pub size: usize,

@@ -7,7 +7,7 @@ use Rattle.rules.specs.State.{Pending, State, with_auction}
 use Rattle.rules.specs.Auction.{eligible, auction_of, ends_by_order, joins}
 use Rattle.rules.specs.Step.{Act, goes_on, begins, joining, ends, Intake, intake, with_new}
 use Rattle.state.specs.View.{state_of}
-use Rattle.state.specs.Lent.{Lent}
+use Rattle.state.specs.Lent.{LentMut}
 
 -- what a message does to the auction
 abbrev pub act_of : ℕ → Act
@@ -28,5 +28,5 @@ pub record Takes (before after : State) (r : ℕ) (f : State → Intake) : Type 
   pub act : act_of r ≡ (f before).act
 
 -- the same said of the lent slices, for a contract
-abbrev pub TakesIn : Lent → Lent → ℕ → (State → Intake) → Type 0
+abbrev pub TakesIn : LentMut → LentMut → ℕ → (State → Intake) → Type 0
 TakesIn longs words r f = Takes (state_of longs.entry.now words.entry.now) (state_of longs.exit.now words.exit.now) r f

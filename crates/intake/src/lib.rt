@@ -1,4 +1,6 @@
 // Document 01, "Order and auction life": a message taken in, in place: the state with it, and what it does to the auction.
+#![tactic(auto)]
+
 ghost use Rattle.std.specs.Prelude.{◌≡◌, ◌&&◌, [], ◌∷◌, ◌-◌, min, leb, length};
 ghost use Rattle.rules.specs.Book.{Entry as Open, held, queued, answer, with_stage};
 ghost use Rattle.rules.specs.State.{Pending, pending, with_auction, contra_prices};

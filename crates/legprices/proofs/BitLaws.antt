@@ -22,8 +22,8 @@ digit_or (suc zero) (suc zero) h k = refl
 digit_or (suc zero) (suc (suc v)) h k = absurd (omega arith)
 digit_or (suc (suc u)) v h k = absurd (omega arith)
 
-bit_or : (a b t : ℕ) → bit (bit_or a b) t ≡ (bit a t || bit b t)
-bit_or a b t =
+bit-or : (a b t : ℕ) → bit (bit_or a b) t ≡ (bit a t || bit b t)
+bit-or a b t =
     ap (λ (x : ℕ). eqb (x % 2) 1) (or_shr a b t) ∙ ap (λ (x : ℕ). eqb x 1) (or_mod (a / 2 ^ t) (b / 2 ^ t) 1)
     ∙ digit_or (a / 2 ^ t % 2) (b / 2 ^ t % 2) (mod-lt (a / 2 ^ t) (zero-lt-suc 1)) (mod-lt (b / 2 ^ t) (zero-lt-suc 1))
 
@@ -65,8 +65,8 @@ merged_bits word low high m h l t j =
     let up : bit ((high * 2 ^ m) % 2 ^ 64) t ≡ (leb m t && bit high (t - m)) = bit_cut (high * 2 ^ m) 64 t j ∙ bit_up high m t in
     let e : 1 + (63 - m + t) ≡ t + 64 - m = omega arith in
     let down : bit (low / 2 ^ 1 / 2 ^ (63 - m)) t ≡ bit low (t + 64 - m) = bit_down (low / 2 ^ 1) (63 - m) t ∙ bit_down low 1 (63 - m + t) ∙ ap (bit low) e in
-    bit_or (bit_or word ((high * 2 ^ m) % 2 ^ 64)) (low / 2 ^ 1 / 2 ^ (63 - m)) t
-    ∙ ap₂ ◌||◌ (bit_or word ((high * 2 ^ m) % 2 ^ 64) t ∙ ap (λ (b : Bool). bit word t || b) up) down
+    bit-or (bit_or word ((high * 2 ^ m) % 2 ^ 64)) (low / 2 ^ 1 / 2 ^ (63 - m)) t
+    ∙ ap₂ ◌||◌ (bit-or word ((high * 2 ^ m) % 2 ^ 64) t ∙ ap (λ (b : Bool). bit word t || b) up) down
     ∙ elim (dec_le m t) [
       | yes i ↦ rw (le-leb m t i, bit_past low 64 (t + 64 - m) l (omega arith)) (or-false (bit word t || bit high (t - m)))
       | no n ↦ rw (lt-leb m t (omega arith)) (ap (λ (b : Bool). b || bit low (t + 64 - m)) (or-false (bit word t)))

@@ -37,28 +37,28 @@ lower_each buy units f g n = each_from (lower buy units) (λ l q. lower_quote (u
 
 module _ (w : List ℕ) (buy low : Bool) (taken : ℕ) where
   -- the quote and the range of leg k
-  abbrev pub quoteNowAt : ℕ → Quote
-  quoteNowAt k = quote_now buy low taken (leg_at w k) (quote_at w k)
+  abbrev pub quote_now_at : ℕ → Quote
+  quote_now_at k = quote_now buy low taken (leg_at w k) (quote_at w k)
 
-  abbrev pub rangeNowAt : ℕ → Range
-  rangeNowAt k = range_of (leg_at w k) (quoteNowAt k)
+  abbrev pub range_now_at : ℕ → Range
+  range_now_at k = range_of (leg_at w k) (quote_now_at k)
 
-quotes_each : (w : List ℕ) (buy low : Bool) (taken : ℕ) → quotes_now w buy low taken ≡ from (quoteNowAt w buy low taken) 0 (leg_count w)
+quotes_each : (w : List ℕ) (buy low : Bool) (taken : ℕ) → quotes_now w buy low taken ≡ from (quote_now_at w buy low taken) 0 (leg_count w)
 quotes_each w buy true taken = lower_each buy taken (leg_at w) (quote_at w) (leg_count w)
 quotes_each w buy false taken = refl
 
-pub ranges_each : (w : List ℕ) (buy low : Bool) (taken : ℕ) → ranges_now w buy low taken ≡ from (rangeNowAt w buy low taken) 0 (leg_count w)
+pub ranges_each : (w : List ℕ) (buy low : Bool) (taken : ℕ) → ranges_now w buy low taken ≡ from (range_now_at w buy low taken) 0 (leg_count w)
 ranges_each w buy low taken =
-    ap (ranges_of (legs_of w)) (quotes_each w buy low taken) ∙ each_from ranges_of range_of refl (λ l ls q qs. refl) (leg_at w) (quoteNowAt w buy low taken) (leg_count w) (leg_count w - 0) 0 refl
+    ap (ranges_of (legs_of w)) (quotes_each w buy low taken) ∙ each_from ranges_of range_of refl (λ l ls q qs. refl) (leg_at w) (quote_now_at w buy low taken) (leg_count w) (leg_count w - 0) 0 refl
 
 price_of : (b : Bool) (a c : Side) → (pick b a c).price ≡ pick b a.price c.price
 price_of true a c = refl
 price_of false a c = refl
 
-pub taken_each : (w : List ℕ) (buy low : Bool) (taken : ℕ) → prices_taken buy (legs_of w) (quotes_now w buy low taken) ≡ from (λ k. price_used buy (rangeNowAt w buy low taken k)) 0 (leg_count w)
+pub taken_each : (w : List ℕ) (buy low : Bool) (taken : ℕ) → prices_taken buy (legs_of w) (quotes_now w buy low taken) ≡ from (λ k. price_used buy (range_now_at w buy low taken k)) 0 (leg_count w)
 taken_each w buy low taken =
     ap (prices_taken buy (legs_of w)) (quotes_each w buy low taken)
-    ∙ each_from (prices_taken buy) (λ l q. price_used buy (range_of l q)) refl (λ l ls q qs. ap (λ (p : ℕ). p ∷ prices_taken buy ls qs) (price_of (uses_ask buy l) q.ask q.bid)) (leg_at w) (quoteNowAt w buy low taken) (leg_count w) (leg_count w - 0) 0 refl
+    ∙ each_from (prices_taken buy) (λ l q. price_used buy (range_of l q)) refl (λ l ls q qs. ap (λ (p : ℕ). p ∷ prices_taken buy ls qs) (price_of (uses_ask buy l) q.ask q.bid)) (leg_at w) (quote_now_at w buy low taken) (leg_count w) (leg_count w - 0) 0 refl
 
 -- ---- no side shows more than a word can be, so that no more need be taken
 

@@ -25,10 +25,10 @@ use Rattle.records.specs.Records.{prices_from}
 use Rattle.legprices.specs.Sums.{Spanned}
 use Rattle.legprices.specs.Ranges.{range_at}
 use Rattle.legprices.specs.Quoted.{quotes_now, price_used, is_near, Ranged}
-use Rattle.legprices.proofs.QuotedLaws.{rangeNowAt, ranges_each, taken_each}
+use Rattle.legprices.proofs.QuotedLaws.{range_now_at, ranges_each, taken_each}
 
 -- the range of a leg of four
-pub range_known : (w : List ℕ) (buy low : Bool) (taken k : ℕ) (r : Range) → k < 4 → r ≡ range_now k buy low taken (leg_at w k) (quote_at w k) → r ≡ rangeNowAt w buy low taken k
+pub range_known : (w : List ℕ) (buy low : Bool) (taken k : ℕ) (r : Range) → k < 4 → r ≡ range_now k buy low taken (leg_at w k) (quote_at w k) → r ≡ range_now_at w buy low taken k
 range_known w buy low taken k r h e = rw (lt-ltb k 4 h) at e
 
 -- ---- near
@@ -141,14 +141,14 @@ module _ (w : List ℕ) (buy low : Bool) (taken : ℕ) where
     pub plus_sized : length plus ≡ 4
     pub bids_sized : length bids ≡ 4
     pub spanned : Spanned ratios widths (leg_count w)
-    pub done : (i : ℕ) → i < k → range_at plus ratios bids widths i ≡ rangeNowAt w buy low taken i
-    pub near : (i : ℕ) → i < k → is_near (rangeNowAt w buy low taken i).bid (rangeNowAt w buy low taken i).ask ≡ true
+    pub done : (i : ℕ) → i < k → range_at plus ratios bids widths i ≡ range_now_at w buy low taken i
+    pub near : (i : ℕ) → i < k → is_near (range_now_at w buy low taken i).bid (range_now_at w buy low taken i).ask ≡ true
 
   pub filling-start : (plus ratios bids widths : List ℕ) → length plus ≡ 4 → length bids ≡ 4 → Spanned ratios widths (leg_count w) → Filling plus ratios bids widths 0
   filling-start plus ratios bids widths p b s = record { plus_sized = p; bids_sized = b; spanned = s; done = λ i h. absurd (omega arith); near = λ i h. absurd (omega arith) }
 
   module _ (plus ratios bids widths : List ℕ) (k : ℕ) (v : Filling plus ratios bids widths k) where
-    pub filling_step : (p r b a : ℕ) → k < 4 → record { plus = flag p; ratio = r; bid = b; ask = a } ≡ rangeNowAt w buy low taken k → is_near b a ≡ true → Filling (set plus k p) (set ratios k r) (set bids k b) (set widths k (a - b)) (k + 1)
+    pub filling_step : (p r b a : ℕ) → k < 4 → record { plus = flag p; ratio = r; bid = b; ask = a } ≡ range_now_at w buy low taken k → is_near b a ≡ true → Filling (set plus k p) (set ratios k r) (set bids k b) (set widths k (a - b)) (k + 1)
     filling_step p r b a h e t =
         let q = near-says b a t in
         let rs : r ≤ most_ratio = omega (arith, ap (λ (g : Range). g.ratio) e) in
@@ -164,23 +164,23 @@ module _ (w : List ℕ) (buy low : Bool) (taken : ℕ) where
             ratio = most-set ratios k r (omega (arith, s.ratios_sized)) most_ratio rs s.ratio;
             width = most-set widths k (a - b) (omega (arith, s.widths_sized)) most_wide (omega (arith, q.2)) s.width;
           };
-          done = below_more (λ i. range_at (set plus k p) (set ratios k r) (set bids k b) (set widths k (a - b)) i ≡ rangeNowAt w buy low taken i) k
+          done = below_more (λ i. range_at (set plus k p) (set ratios k r) (set bids k b) (set widths k (a - b)) i ≡ range_now_at w buy low taken i) k
               (λ i x. let other : (l : List ℕ) (y : ℕ) → get_or (set l k y) i 0 ≡ get_or l i 0 = λ l y. get_or-set_other l k i y 0 (λ z. omega arith) in
               rw (other plus p, other ratios r, other bids b, other widths (a - b)) (v.done i x))
               (rw (here plus k p (omega (arith, v.plus_sized)), here ratios k r (omega (arith, s.ratios_sized)), here bids k b (omega (arith, v.bids_sized)), here widths k (a - b) (omega (arith, s.widths_sized)), wide) e);
-          near = below_more (λ i. is_near (rangeNowAt w buy low taken i).bid (rangeNowAt w buy low taken i).ask ≡ true) k v.near
+          near = below_more (λ i. is_near (range_now_at w buy low taken i).bid (range_now_at w buy low taken i).ask ≡ true) k v.near
               (ap (λ (g : Range). is_near g.bid g.ask) (sym e) ∙ t);
         }
 
     -- a leg that is not near
-    pub filling-far : (r : Range) → k < leg_count w → r ≡ rangeNowAt w buy low taken k → is_near r.bid r.ask ≡ false → Ranged w buy low taken false plus ratios bids widths
+    pub filling-far : (r : Range) → k < leg_count w → r ≡ range_now_at w buy low taken k → is_near r.bid r.ask ≡ false → Ranged w buy low taken false plus ratios bids widths
     filling-far r h e t =
         record {
           plus_sized = v.plus_sized;
           bids_sized = v.bids_sized;
           spanned = v.spanned;
           some = λ f. absurd (true≢false (sym f));
-          none = λ f price. far_none (rangeNowAt w buy low taken) (leg_count w) k h (ap (λ (g : Range). is_near g.bid g.ask) (sym e) ∙ t) price
+          none = λ f price. far_none (range_now_at w buy low taken) (leg_count w) k h (ap (λ (g : Range). is_near g.bid g.ask) (sym e) ∙ t) price
               ∙ ap (λ (gs : List Range). leg_prices gs price) (sym (ranges_each w buy low taken));
         }
 
@@ -192,7 +192,7 @@ module _ (w : List ℕ) (buy low : Bool) (taken : ℕ) where
           spanned = v.spanned;
           some = λ f price.
               let n = leg_count w in
-              let g = rangeNowAt w buy low taken in
+              let g = range_now_at w buy low taken in
               ap (λ (gs : List Range). search gs most_cents price) (from-same (range_at plus ratios bids widths) g 0 n (λ i a b. v.done i (omega arith)))
               ∙ near-found (from g 0 n) price (all_near g n (n - 0) 0 refl (λ i b. v.near i (omega arith)))
               ∙ ap (λ (gs : List Range). leg_prices gs price) (sym (ranges_each w buy low taken));
@@ -205,7 +205,7 @@ module _ (w : List ℕ) (buy low : Bool) (taken : ℕ) where
   -- those of the first k legs
   pub record Taking (prices : List ℕ) (k : ℕ) : Type 0 where
     pub sized : length prices ≡ 4
-    pub done : (i : ℕ) → i < k → get_or prices i 0 ≡ price_used buy (rangeNowAt w buy low taken i)
+    pub done : (i : ℕ) → i < k → get_or prices i 0 ≡ price_used buy (range_now_at w buy low taken i)
 
   pub taking-start : (prices : List ℕ) → length prices ≡ 4 → Taking prices 0
   taking-start prices h = record { sized = h; done = λ i b. absurd (omega arith) }
@@ -214,7 +214,7 @@ module _ (w : List ℕ) (buy low : Bool) (taken : ℕ) where
   taking_step prices k p r h e u v =
       record {
         sized = length-set prices k p ∙ v.sized;
-        done = below_more (λ i. get_or (set prices k p) i 0 ≡ price_used buy (rangeNowAt w buy low taken i)) k
+        done = below_more (λ i. get_or (set prices k p) i 0 ≡ price_used buy (range_now_at w buy low taken i)) k
             (λ i b. get_or-set_other prices k i p 0 (λ z. omega arith) ∙ v.done i b)
             (here prices k p (omega (arith, v.sized)) ∙ u ∙ ap (price_used buy) (range_known w buy low taken k r h e));
       }
@@ -225,5 +225,5 @@ module _ (w : List ℕ) (buy low : Bool) (taken : ℕ) where
       let l : n - 1 ≡ leg_count w = omega arith in
       rw (z, l)
       (ap priced
-      (sym (from-take 0 prices (leg_count w) (omega (arith, v.sized))) ∙ from-same (λ i. get_or prices i 0) (λ i. price_used buy (rangeNowAt w buy low taken i)) 0 (leg_count w) (λ i a b. v.done i (omega arith))
+      (sym (from-take 0 prices (leg_count w) (omega (arith, v.sized))) ∙ from-same (λ i. get_or prices i 0) (λ i. price_used buy (range_now_at w buy low taken i)) 0 (leg_count w) (λ i a b. v.done i (omega arith))
       ∙ sym (taken_each w buy low taken)))

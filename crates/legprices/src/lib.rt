@@ -1,4 +1,6 @@
 // Document 02, M-106: the leg prices of fill records.
+#![tactic(auto)]
+
 ghost use Rattle.std.specs.Prelude.{◌≡◌, true, ◌+◌, ◌≤◌, min};
 ghost use Rattle.state.specs.Layout.{WordsSized};
 ghost use Rattle.quotes.specs.Uses.{most_word};
@@ -11,7 +13,7 @@ mod search;
 mod sums;
 
 // Where a pass over records stands.
-#[derive(Drop)]
+#[derive(Clone, Copy)]
 struct Pass {
     // Whether a record of the legs came before, and the units of all such records, up to the greatest word.
     pub lowered: bool,

@@ -30,7 +30,7 @@ fn times(ratio: u64, cents: u64) -> u64
 // ---- the sum to make
 
 // The least that is paid, the most that is got, and the greatest sum that the legs can make.
-#[derive(Drop)]
+#[derive(Clone, Copy)]
 struct Ends {
     pub paid: u64,
     pub got: u64,

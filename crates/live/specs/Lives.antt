@@ -7,7 +7,7 @@ use Rattle.rules.specs.Tape.{header_bytes, message_bytes}
 use Rattle.rules.specs.Run.{refused_opening, started, opening}
 use Rattle.state.specs.Layout.{Sized}
 use Rattle.state.specs.View.{state_of}
-use Rattle.state.specs.Lent.{Lent}
+use Rattle.state.specs.Lent.{Lent, LentMut}
 use Rattle.records.specs.Records.{width}
 use Rattle.tape.specs.View.{strategy_from}
 use Rattle.feed.specs.Replies.{after_records, replies_text, records_from, whole_records}
@@ -68,20 +68,20 @@ pub record IsRun (longs words longs' words' head : List ℕ) (r : Total) : Type 
 
 -- ---- the same said of the lent slices, for contracts
 
-abbrev pub Reads : Lent → ℕ → ℕ → Type 0
+abbrev pub Reads : LentMut → ℕ → ℕ → Type 0
 Reads input left r = IsRead input.entry.now input.exit.now left r
 
-abbrev pub Answers : Lent → Lent → Lent → Burst → Type 0
+abbrev pub Answers : LentMut → LentMut → Lent → Burst → Type 0
 Answers longs words input r = IsAnswered input.entry.now (state_of longs.entry.now words.entry.now) (state_of longs.exit.now words.exit.now) r.answered r.bytes r.going
 
-abbrev pub Moves : ℕ → ℕ → Lent → ℕ → Type 0
+abbrev pub Moves : ℕ → ℕ → LentMut → ℕ → Type 0
 Moves from to input r = IsMoved from to input.entry.now input.exit.now r
 
-abbrev pub Rounds : Lent → Lent → Lent → ℕ → Round → Type 0
+abbrev pub Rounds : LentMut → LentMut → LentMut → ℕ → Round → Type 0
 Rounds longs words input left r = IsRound input.entry.now input.exit.now left (state_of longs.entry.now words.entry.now) (state_of longs.exit.now words.exit.now) r
 
-abbrev pub Lives : Lent → Lent → Total → Type 0
+abbrev pub Lives : LentMut → LentMut → Total → Type 0
 Lives longs words r = Lived (state_of longs.entry.now words.entry.now) (state_of longs.exit.now words.exit.now) r
 
-abbrev pub Runs : Lent → Lent → List ℕ → Total → Type 0
+abbrev pub Runs : LentMut → LentMut → List ℕ → Total → Type 0
 Runs longs words head r = IsRun longs.entry.now words.entry.now longs.exit.now words.exit.now head r

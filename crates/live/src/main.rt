@@ -1,4 +1,6 @@
 // live: a copy of the engine over pipes. It reads a header and its legs on standard input and answers the opening; then it reads what message records there are and answers them at once, until the input ends.
+#![tactic(auto)]
+
 ghost use Rattle.std.specs.Prelude.{◌≡◌, ◌+◌, ◌*◌, ◌≤◌, ◌<◌, length};
 ghost use Rattle.rules.specs.Refusals.{least_room};
 ghost use Rattle.state.specs.Layout.{Sized};
@@ -6,11 +8,15 @@ ghost use Rattle.records.specs.Records.{width};
 ghost use Rattle.live.specs.Lives.{Fits, Reads, Answers, Moves, Rounds, Lives, Runs};
 
 use feed::Cursor;
-use libc::{STDIN_FILENO, STDOUT_FILENO};
+use output::STDOUT;
 use records::Record;
 use state::State;
+use std::io::{Read, Stdin};
 use tape::{Header, Section};
 use types::{Fill, Opening};
+
+// The number by which the system knows standard input.
+const STDIN: i32 = 0;
 
 // The bytes of a header, of a leg and of a message record; the legs that are kept; the numbers of 2,000 fill records.
 const HEADER: usize = Header::BYTES;
@@ -27,7 +33,7 @@ const NUMBERS: usize = Record::NUMBERS * Fill::LEAST_ROOM;
 const FULL: usize = 128_000;
 
 // The answers to the whole records of an input: how many were given, how many bytes they have, and whether the system took them.
-#[derive(Drop)]
+#[derive(Clone, Copy)]
 struct Burst {
     pub answered: usize,
     pub bytes: u64,
@@ -35,7 +41,7 @@ struct Burst {
 }
 
 // The same of one read, and how many bytes of a record are left.
-#[derive(Drop)]
+#[derive(Clone, Copy)]
 struct Round {
     pub left: usize,
     pub answered: usize,
@@ -44,7 +50,7 @@ struct Round {
 }
 
 // The records that were answered, and the bytes of their answers.
-#[derive(Drop)]
+#[derive(Clone, Copy)]
 struct Total {
     pub records: u64,
     pub bytes: u64,
@@ -75,12 +81,12 @@ fn blank_input() -> [u8; 65_520]
 fn say_opening(number: u32) -> bool {
     let mut line = [0u8; 128];
     let n = text::put_opening(&mut line, number);
-    io::write_all(STDOUT_FILENO, &line[..n])
+    io::write_all(STDOUT, &line[..n])
 }
 
 // The input ends inside the header, the legs or a record.
 fn say_incomplete() {
-    io::write_all(STDOUT_FILENO, b"incomplete\n");
+    io::write_all(STDOUT, b"incomplete\n");
 }
 
 // ---- the opening
@@ -88,7 +94,7 @@ fn say_incomplete() {
 // A leg that is not looked at; whether it was there.
 fn skip_leg() -> bool {
     let mut leg = [0u8; LEG];
-    io::read_full(STDIN_FILENO, &mut leg) == LEG
+    io::read_full(STDIN, &mut leg) == LEG
 }
 
 // So many of them.
@@ -107,14 +113,14 @@ fn skip_legs(count: usize) -> bool {
 fn read_opening(head: &mut [u8]) -> bool
     requires { length head.old ≡ 136 }
 {
-    if io::read_full(STDIN_FILENO, &mut head[0..HEADER]) < HEADER {
+    if io::read_full(STDIN, &mut head[0..HEADER]) < HEADER {
         return false;
     }
     let h = tape::header_of(head);
     let count = h.legcount as usize;
     let kept = number::lesser_size(count, LEGS);
     let end = HEADER + LEG * kept;
-    if io::read_full(STDIN_FILENO, &mut head[HEADER..end]) < LEG * kept {
+    if io::read_full(STDIN, &mut head[HEADER..end]) < LEG * kept {
         return false;
     }
     skip_legs(count - kept)
@@ -123,19 +129,21 @@ fn read_opening(head: &mut [u8]) -> bool
 // ---- the messages
 
 // What the system has, as far as there is room; 0 at the end of the input, or where a read fails.
-fn read_some(room: &mut [u8]) -> usize
+fn read_some(room: &mut [u8], mut stdin: Stdin) -> usize
     ensures { result ≤ length room.new }
 {
-    let got = libc::read(STDIN_FILENO, room);
-    io::count(got, room)
+    match stdin.read(room) {
+        Ok(got) => got,
+        Err(_) => 0,
+    }
 }
 
 // The same behind the bytes that are left of a record.
-fn read_behind(input: &mut [u8], left: usize) -> usize
+fn read_behind(input: &mut [u8], left: usize, stdin: Stdin) -> usize
     requires { left < length input.old }
     ensures { Reads input left result }
 {
-    read_some(&mut input[left..])
+    read_some(&mut input[left..], stdin)
 }
 
 // The whole records of an input, answered through a page, which is handed to the system when it is full and behind the last record.
@@ -195,11 +203,12 @@ fn hear(
     page: &mut [u8],
     input: &mut [u8],
     left: usize,
+    stdin: Stdin,
 ) -> Round
     requires { Fits longs.old words.old list.old page.old × (left < length input.old) }
     ensures { Rounds longs words input left result }
 {
-    let got = read_behind(input, left);
+    let got = read_behind(input, left, stdin);
     if got == 0 {
         if 0 < left {
             say_incomplete();
@@ -229,6 +238,7 @@ fn listen(
     list: &mut [u64],
     page: &mut [u8],
     input: &mut [u8],
+    stdin: Stdin,
 ) -> Total
     requires { Fits longs.old words.old list.old page.old × (length input.old ≡ 65520) }
     ensures { Lives longs words result }
@@ -238,7 +248,7 @@ fn listen(
     let mut bytes: u64 = 0;
     let mut reads: u64 = 0;
     while reads < Total::MOST_READS {
-        let t = hear(longs, words, list, page, input, left);
+        let t = hear(longs, words, list, page, input, left, stdin);
         left = t.left;
         records += t.answered as u64;
         bytes = output::count_up(bytes, t.bytes as usize);
@@ -251,24 +261,24 @@ fn listen(
 }
 
 // The same with a page and an input of its own.
-fn serve(longs: &mut [u64], words: &mut [u32], list: &mut [u64]) -> Total
+fn serve(longs: &mut [u64], words: &mut [u32], list: &mut [u64], stdin: Stdin) -> Total
     requires { Sized longs.old words.old × (least_room * width ≤ length list.old) }
     ensures { Lives longs words result }
 {
     let mut page = blank_page();
     let mut input = blank_input();
-    listen(longs, words, list, &mut page, &mut input)
+    listen(longs, words, list, &mut page, &mut input, stdin)
 }
 
 // An opening, and the records behind it.
-fn run(longs: &mut [u64], words: &mut [u32], list: &mut [u64], head: &[u8]) -> Total
+fn run(longs: &mut [u64], words: &mut [u32], list: &mut [u64], head: &[u8], stdin: Stdin) -> Total
     requires { Sized longs.old words.old × (least_room * width ≤ length list.old) }
     ensures { Runs longs words head.now result }
 {
     let number = feed::open(longs, words, head);
     let said = say_opening(number);
     if said & (number == 0) {
-        return serve(longs, words, list);
+        return serve(longs, words, list, stdin);
     }
     Total {
         records: 0,
@@ -276,7 +286,7 @@ fn run(longs: &mut [u64], words: &mut [u32], list: &mut [u64], head: &[u8]) -> T
     }
 }
 
-fn main() {
+fn main(rt: HostRuntime) {
     let mut head = [0u8; HEADER + LEGS * LEG];
     if !read_opening(&mut head) {
         say_incomplete();
@@ -285,5 +295,5 @@ fn main() {
     let mut longs = [0u64; State::LONGS];
     let mut words = [0u32; State::WORDS];
     let mut list = [0u64; NUMBERS];
-    run(&mut longs, &mut words, &mut list, &head);
+    run(&mut longs, &mut words, &mut list, &head, rt.stdin());
 }

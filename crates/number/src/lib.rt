@@ -1,4 +1,6 @@
 // Small sums and comparisons of numbers that no caller need check.
+#![tactic(auto)]
+
 ghost use Rattle.std.specs.Prelude.{◌≡◌, ◌-◌, ◌≤◌, min};
 
 // The lesser of two.

@@ -6,7 +6,7 @@ use Rattle.rules.specs.State.{State}
 use Rattle.rules.specs.Run.{Opened, refused_opening, started, opening}
 use Rattle.state.specs.Layout.{is_sized}
 use Rattle.state.specs.View.{state_of}
-use Rattle.state.specs.Lent.{Lent}
+use Rattle.state.specs.Lent.{LentMut}
 
 -- an opening by its number, 0 for none, and its state
 abbrev pub opened_by : ℕ → State → Opened
@@ -20,5 +20,5 @@ pub record Opens (longs words : List ℕ) (o : S.Strategy) (r : ℕ) (longs' wor
   pub sized : (length longs' ≡ length longs) × (length words' ≡ length words)
 
 -- the same of lent slices
-abbrev pub IsOpened : Lent → Lent → S.Strategy → ℕ → Type 0
+abbrev pub IsOpened : LentMut → LentMut → S.Strategy → ℕ → Type 0
 IsOpened longs words o r = Opens longs.entry.now words.entry.now o r longs.exit.now words.exit.now

@@ -1,4 +1,6 @@
 // An opening, checked and stored in the two lent slices of a state, whatever they held.
+#![tactic(auto)]
+
 ghost use Rattle.std.specs.Prelude.{◌≡◌, ℕ, ◌≤◌, ◌<◌, get_or};
 ghost use Rattle.rules.specs.Strategy.{opening_refusal};
 ghost use Rattle.rules.specs.Run.{start_of};

@@ -9,7 +9,7 @@ use state::Clock;
 use types::{Amounts, Leg, Opening, Settings};
 
 // What the table asks of each leg: number 2, 3, 5 and 6.
-#[derive(Drop)]
+#[derive(Clone, Copy)]
 struct LegMarks {
     symbol: bool,
     date: bool,
@@ -18,7 +18,7 @@ struct LegMarks {
 }
 
 // What it asks of each two legs: number 4, twice, and 5.
-#[derive(Drop)]
+#[derive(Clone, Copy)]
 struct PairMarks {
     root: bool,
     symbol: bool,

@@ -1,11 +1,14 @@
 // What a program hands to the system, counted where it is handed over.
+#![tactic(auto)]
+
 ghost use Rattle.std.specs.Prelude.{◌≡◌, ◌+◌, length};
 ghost use Rattle.output.specs.Counted.{counted};
 
-use libc::STDOUT_FILENO;
+// The number by which the system knows standard output.
+pub const STDOUT: i32 = 1;
 
 // How many bytes were handed over in all, and whether the system took the last of them, which it alone can say.
-#[derive(Drop)]
+#[derive(Clone, Copy)]
 pub struct Handed {
     pub bytes: u64,
     pub taken: bool,
@@ -33,7 +36,7 @@ pub fn count_up(total: u64, n: usize) -> u64
 pub fn hand_over(part: &[u8], before: u64) -> Handed
     ensures { result.bytes ≡ counted (before + length part.now) }
 {
-    let taken = io::write_all(STDOUT_FILENO, part);
+    let taken = io::write_all(STDOUT, part);
     let bytes = count_up(before, part.len());
     Handed { bytes, taken }
 }

@@ -1,4 +1,6 @@
 // Signed cents and biased prices, which are the cents plus 40,000,000. Signed numbers are taken apart here and nowhere else.
+#![tactic(auto)]
+
 ghost use Rattle.std.specs.Prelude.{◌≡◌, ◌+◌, ◌<◌, min, negsuc};
 ghost use Rattle.rules.specs.Prices.{is_limit, biased as biased_of, cents as cents_of};
 ghost use Rattle.rules.specs.Filter.{beyond};
@@ -8,7 +10,7 @@ ghost use Rattle.price.specs.Signed.{signed_of};
 use types::{Fill, Order, Quote};
 
 // A signed number by its sign: size, or -1 - size where it is negative.
-#[derive(Drop)]
+#[derive(Clone, Copy)]
 struct Signed {
     pub negative: bool,
     pub size: u32,

@@ -1,4 +1,6 @@
 // Document 01, "Tape", and M-102: what tapeprint prints, through a page.
+#![tactic(auto)]
+
 ghost use Rattle.std.specs.Prelude.{◌≡◌, ◌+◌, ◌*◌, ◌≤◌, length, drop};
 ghost use Rattle.rules.specs.Tape.{messages_from};
 ghost use Rattle.rules.specs.Print.{title_line, lines_from};

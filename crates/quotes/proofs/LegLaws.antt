@@ -65,12 +65,12 @@ module _ (national ask : Bool) (l : Leg) (q : Quote) (x n : ℕ) (e : x ≡ l.ra
 
 -- the sums over the legs before one, and the least of their units
 module _ (national ask : Bool) (w : List ℕ) where
-  abbrev overFrom : Bool → ℕ → ℕ
-  overFrom b k = over b (price_used national ask) (legs_from w k) (quotes_from w k)
+  abbrev over_from : Bool → ℕ → ℕ
+  over_from b k = over b (price_used national ask) (legs_from w k) (quotes_from w k)
 
   pub record Summed (bought sold units k : ℕ) : Type 0 where
-    pub costs : bought + overFrom true k ≡ most_cents + overFrom true 0
-    pub gains : sold + overFrom false k ≡ overFrom false 0
+    pub costs : bought + over_from true k ≡ most_cents + over_from true 0
+    pub gains : sold + over_from false k ≡ over_from false 0
     pub shown : least_from units ask (legs_from w k) (quotes_from w k) ≡ least_from most_word ask (legs_of w) (market_of w)
     pub most : (bought ≤ most_cents + k * most_cost) × (sold ≤ k * most_cost)
 
@@ -78,11 +78,11 @@ module _ (national ask : Bool) (w : List ℕ) where
   summed-none = record { costs = refl; gains = omega arith; shown = refl; most = (omega arith, omega arith) }
 
   module _ (p : Part) (k : ℕ) (h : k < leg_count w) (i : IsPart national ask (leg_at w k) (quote_at w k) p) where
-    next-bought : overFrom true k ≡ p.bought + overFrom true (k + 1)
-    next-bought = next-leg (over true (price_used national ask)) w k h ∙ ap (λ (x : ℕ). x + overFrom true (k + 1)) (sym i.bought)
+    next-bought : over_from true k ≡ p.bought + over_from true (k + 1)
+    next-bought = next-leg (over true (price_used national ask)) w k h ∙ ap (λ (x : ℕ). x + over_from true (k + 1)) (sym i.bought)
 
-    next-sold : overFrom false k ≡ p.sold + overFrom false (k + 1)
-    next-sold = next-leg (over false (price_used national ask)) w k h ∙ ap (λ (x : ℕ). x + overFrom false (k + 1)) (sym i.sold)
+    next-sold : over_from false k ≡ p.sold + over_from false (k + 1)
+    next-sold = next-leg (over false (price_used national ask)) w k h ∙ ap (λ (x : ℕ). x + over_from false (k + 1)) (sym i.sold)
 
     pub summed-next : (bought sold units : ℕ) → Summed bought sold units k → Summed (bought + p.bought) (sold + p.sold) (min units p.units) (k + 1)
     summed-next bought sold units s =

@@ -107,28 +107,28 @@ module _ (f : Quote → Quote) (k : ℕ) where
 
 module _ (ask : Bool) (units : ℕ) where
   -- what the quote of a leg becomes
-  abbrev pub loweredAt : List ℕ → ℕ → Quote
-  loweredAt w i = lower_quote (uses_ask ask (leg_at w i)) ((leg_at w i).ratio * units) (quote_at w i)
+  abbrev pub lowered_at : List ℕ → ℕ → Quote
+  lowered_at w i = lower_quote (uses_ask ask (leg_at w i)) ((leg_at w i).ratio * units) (quote_at w i)
 
   -- the legs before k are lowered, the others as they were
   pub record Lowering (w l : List ℕ) (k : ℕ) : Type 0 where
     pub kept : Kept L.bids L.sides w l
-    pub done : (i : ℕ) → i < k → quote_at l i ≡ loweredAt w i
+    pub done : (i : ℕ) → i < k → quote_at l i ≡ lowered_at w i
     pub ahead : (i : ℕ) → k ≤ i → i < 4 → quote_at l i ≡ quote_at w i
 
   pub lowering-start : (w : List ℕ) → Lowering w w 0
   lowering-start w = record { kept = kept_all L.bids L.sides w; done = λ i h. absurd (omega arith); ahead = λ i h b. refl }
 
-  pub lowering-step : (w l m : List ℕ) (k : ℕ) → k < 4 → Lowering w l k → Requoted k (loweredAt l k) l m → Lowering w m (k + 1)
+  pub lowering-step : (w l m : List ℕ) (k : ℕ) → k < 4 → Lowering w l k → Requoted k (lowered_at l k) l m → Lowering w m (k + 1)
   lowering-step w l m k h g r =
-      let e : loweredAt l k ≡ loweredAt w k = rw (g.kept.above (L.sides + k) (omega arith), g.kept.above (L.ratios + k) (omega arith), g.ahead k (omega arith) h) in
+      let e : lowered_at l k ≡ lowered_at w k = rw (g.kept.above (L.sides + k) (omega arith), g.kept.above (L.ratios + k) (omega arith), g.ahead k (omega arith) h) in
       record {
         kept = kept_then L.bids L.sides L.bids L.sides L.bids L.sides w l m (omega arith) (omega arith) (omega arith) (omega arith) g.kept r.kept;
-        done = below_more (λ i. quote_at m i ≡ loweredAt w i) k (λ i b. r.there i (omega arith) (λ z. omega arith) ∙ g.done i b) (r.here ∙ e);
+        done = below_more (λ i. quote_at m i ≡ lowered_at w i) k (λ i b. r.there i (omega arith) (λ z. omega arith) ∙ g.done i b) (r.here ∙ e);
         ahead = λ i b c. r.there i c (λ z. omega arith) ∙ g.ahead i (omega arith) c;
       }
 
-  lowered-from : (w : List ℕ) (r : ℕ → Quote) (d k : ℕ) → leg_count w - k ≡ d → ((i : ℕ) → i < leg_count w → r i ≡ loweredAt w i) → from r k (leg_count w) ≡ lower ask units (legs_from w k) (quotes_from w k)
+  lowered-from : (w : List ℕ) (r : ℕ → Quote) (d k : ℕ) → leg_count w - k ≡ d → ((i : ℕ) → i < leg_count w → r i ≡ lowered_at w i) → from r k (leg_count w) ≡ lower ask units (legs_from w k) (quotes_from w k)
   unfolding lower
   lowered-from w r zero k e p = rw (from_end r k (leg_count w) (omega arith)) (sym (no-leg (lower ask units) w k (omega arith)))
   lowered-from w r (suc d) k e p =

@@ -1,17 +1,16 @@
 -- What of a leg a contra price uses, and what legs can come to.
-use Rattle.std.specs.Prelude.{◌≡◌, Bool, ℕ, ◌+◌, ◌*◌, ◌≤◌}
+use Rattle.std.specs.Prelude.{◌≡◌, Bool, List, ℕ, ◌+◌, ◌*◌, ◌≤◌}
 use Rattle.rules.specs.Basics.{pick}
 use Rattle.rules.specs.Strategy.{Leg, is_b, most_ratio}
 use Rattle.rules.specs.Prices.{most_cents, Quote, used, national_used, units_shown}
 use Rattle.rules.specs.Filter.{LegPrice}
 use Rattle.state.specs.View.{leg_at, quote_at}
-use Rattle.state.specs.Lent.{Lent}
 use Rattle.quotes.specs.declared.Part.{Part}
 use Rattle.quotes.specs.declared.LegPrice.{LegPrice as Priced}
 
 -- it holds of leg k and its quote
-abbrev pub OfLeg : Lent → ℕ → (Leg → Quote → Type 0) → Type 0
-OfLeg words k P = P (leg_at words.entry.now k) (quote_at words.entry.now k)
+abbrev pub OfLeg : List ℕ → ℕ → (Leg → Quote → Type 0) → Type 0
+OfLeg words k P = P (leg_at words k) (quote_at words k)
 
 -- the price, national or local
 abbrev pub price_used : Bool → Bool → Leg → Quote → ℕ

@@ -1,4 +1,6 @@
 // Leg quotes in the words of a state: derived bid and ask with their units, the filter, what a fill takes from the legs, quotes taken in.
+#![tactic(auto)]
+
 ghost use Rattle.std.specs.Prelude.{◌≡◌, ◌-◌, ◌*◌, ◌≤◌, ◌<◌};
 ghost use Rattle.rules.specs.Strategy.{is_b, most_ratio};
 ghost use Rattle.rules.specs.Prices.{uses_ask, used, net, units_shown, least, derived as derived_rule, lower_quote, lower as lower_of};
@@ -21,7 +23,7 @@ use types::{Derived, Leg, Local, National, Order, Quote};
 // Whether a leg's side is B.
 fn is_b(words: &[u32], k: usize) -> bool
     requires { WordsSized words.now × (k < 4) }
-    ensures { OfLeg words k (λ l q. result ≡ is_b l.side) }
+    ensures { OfLeg words.now k (λ l q. result ≡ is_b l.side) }
 {
     words[Legs::SIDES + k] == Leg::B as u32
 }
@@ -29,7 +31,7 @@ fn is_b(words: &[u32], k: usize) -> bool
 // "The derived ask uses asks of B legs and bids of S legs; the derived bid the opposite sides".
 fn uses_ask(words: &[u32], ask: bool, k: usize) -> bool
     requires { WordsSized words.now × (k < 4) }
-    ensures { OfLeg words k (λ l q. result ≡ uses_ask ask l) }
+    ensures { OfLeg words.now k (λ l q. result ≡ uses_ask ask l) }
 {
     let b = is_b(words, k);
     if ask { b } else { !b }
@@ -38,7 +40,7 @@ fn uses_ask(words: &[u32], ask: bool, k: usize) -> bool
 // The price that a derived price uses, national or local.
 fn price_used(words: &[u32], national: bool, ask: bool, k: usize) -> u32
     requires { WordsSized words.now × (k < 4) }
-    ensures { OfLeg words k (λ l q. result ≡ price_used national ask l q) }
+    ensures { OfLeg words.now k (λ l q. result ≡ price_used national ask l q) }
 {
     if uses_ask(words, ask, k) {
         if national {
@@ -58,7 +60,7 @@ fn price_used(words: &[u32], national: bool, ask: bool, k: usize) -> u32
 // The size that a derived price uses.
 fn size_used(words: &[u32], ask: bool, k: usize) -> u32
     requires { WordsSized words.now × (k < 4) }
-    ensures { OfLeg words k (λ l q. result ≡ (used ask l q).size) }
+    ensures { OfLeg words.now k (λ l q. result ≡ (used ask l q).size) }
 {
     if uses_ask(words, ask, k) {
         words[Market::ASK_SIZES + k]
@@ -83,7 +85,7 @@ fn ratio_at(words: &[u32], k: usize) -> u32
 // "size divided by ratio, rounded down"; a ratio of 0 shows none, and one of 1 needs no division.
 fn units_shown(words: &[u32], ask: bool, k: usize) -> u32
     requires { WordsSized words.now × (k < 4) }
-    ensures { OfLeg words k (λ l q. result ≡ units_shown ask l q) }
+    ensures { OfLeg words.now k (λ l q. result ≡ units_shown ask l q) }
 {
     let size = size_used(words, ask, k);
     let ratio = ratio_at(words, k);
@@ -102,7 +104,7 @@ fn times(ratio: u32, n: u32) -> u64
 }
 
 // A leg's part in a derived price: its cost among the B legs, or among the S legs, and the units that it shows.
-#[derive(Drop)]
+#[derive(Clone, Copy)]
 struct Part {
     pub bought: u64,
     pub sold: u64,
@@ -111,7 +113,7 @@ struct Part {
 
 fn leg_part(words: &[u32], national: bool, ask: bool, k: usize) -> Part
     requires { WordsSized words.now × (k < 4) }
-    ensures { OfLeg words k (λ l q. IsPart national ask l q result) }
+    ensures { OfLeg words.now k (λ l q. IsPart national ask l q result) }
 {
     let cost = times(ratio_at(words, k), price_used(words, national, ask, k));
     let units = units_shown(words, ask, k);
@@ -190,7 +192,7 @@ fn all_national(words: &[u32]) -> bool
 }
 
 // A leg's national price that a contra price uses, and its MPV.
-#[derive(Drop)]
+#[derive(Clone, Copy)]
 struct LegPrice {
     pub price: u32,
     pub mpv: u32,
@@ -198,7 +200,7 @@ struct LegPrice {
 
 fn price_of(words: &[u32], ask: bool, k: usize) -> LegPrice
     requires { WordsSized words.now × (k < 4) }
-    ensures { OfLeg words k (λ l q. leg_price_of result ≡ leg_price ask l q) }
+    ensures { OfLeg words.now k (λ l q. leg_price_of result ≡ leg_price ask l q) }
 {
     LegPrice {
         price: price_used(words, true, ask, k),
@@ -287,7 +289,7 @@ pub fn filtered(words: &[u32], buy: bool, limit: u32) -> bool
 // The quote of a leg.
 fn quote_at(words: &[u32], k: usize) -> Quote
     requires { WordsSized words.now × (k < 4) }
-    ensures { OfLeg words k (λ l q. quote_of result ≡ q) }
+    ensures { OfLeg words.now k (λ l q. quote_of result ≡ q) }
 {
     Quote {
         bid: words[Market::BIDS + k],
@@ -338,7 +340,7 @@ fn lower_quote(ask: bool, n: u64, q: Quote) -> Quote
 // A leg's quote less what so many units take of it.
 fn lowered_at(words: &[u32], ask: bool, units: u32, k: usize) -> Quote
     requires { WordsSized words.now × (k < 4) }
-    ensures { OfLeg words k (λ l q. quote_of result ≡ lower_quote (uses_ask ask l) (l.ratio * units) q) }
+    ensures { OfLeg words.now k (λ l q. quote_of result ≡ lower_quote (uses_ask ask l) (l.ratio * units) q) }
 {
     let side = uses_ask(words, ask, k);
     let n = times(ratio_at(words, k), units);
@@ -348,7 +350,7 @@ fn lowered_at(words: &[u32], ask: bool, units: u32, k: usize) -> Quote
 // The same stored.
 fn lower_leg(words: &mut [u32], ask: bool, units: u32, k: usize)
     requires { WordsSized words.old × (k < 4) }
-    ensures { OfLeg words k (λ l q. Requoted k (lower_quote (uses_ask ask l) (l.ratio * units) q) words.old words.new) }
+    ensures { OfLeg words.old k (λ l q. Requoted k (lower_quote (uses_ask ask l) (l.ratio * units) q) words.old words.new) }
 {
     put_quote(words, k, lowered_at(words, ask, units, k));
 }
@@ -371,7 +373,7 @@ pub fn lower(words: &mut [u32], ask: bool, units: u32)
 // A leg's quote, lowered or not by the units that a buyer or a seller took.
 fn quote_now(words: &[u32], k: usize, buy: bool, lowered: bool, taken: u32) -> Quote
     requires { WordsSized words.now × (k < 4) }
-    ensures { OfLeg words k (λ l q. quote_of result ≡ quote_now buy lowered taken l q) }
+    ensures { OfLeg words.now k (λ l q. quote_of result ≡ quote_now buy lowered taken l q) }
 {
     if lowered {
         return lowered_at(words, buy, taken, k);
@@ -380,7 +382,7 @@ fn quote_now(words: &[u32], k: usize, buy: bool, lowered: bool, taken: u32) -> Q
 }
 
 // A leg's local bid and ask, 0 for absent, with what a cent of it counts for a buyer of the strategy.
-#[derive(Drop)]
+#[derive(Clone, Copy)]
 pub struct Range {
     pub plus: bool,
     pub ratio: u32,
@@ -391,7 +393,7 @@ pub struct Range {
 // The range of a leg, lowered or not by the units that a buyer or a seller took; nothing beyond the fourth.
 pub fn range_at(words: &[u32], k: usize, buy: bool, lowered: bool, taken: u32) -> Range
     requires { WordsSized words.now }
-    ensures { OfLeg words k (λ l q. range_in result ≡ range_now k buy lowered taken l q) }
+    ensures { OfLeg words.now k (λ l q. range_in result ≡ range_now k buy lowered taken l q) }
 {
     if k < Legs::MOST {
         let q = quote_now(words, k, buy, lowered, taken);

@@ -6,7 +6,7 @@ use Rattle.rules.specs.Turn.{Rank, L, C, N, T, R, Contra, legs, entry, Fill}
 use Rattle.rules.specs.LegPrices.{LegPrices, unpriced, priced}
 use Rattle.types.specs.declared.Fill as F
 use Rattle.types.specs.View.{from, fill_of, held_legs, held_prices}
-use Rattle.state.specs.Lent.{Lent}
+use Rattle.state.specs.Lent.{LentMut}
 
 -- a number of 32 bits
 abbrev pub narrow : ℕ → ℕ
@@ -78,7 +78,7 @@ pub record Adds (old : List ℕ) (at : ℕ) (new : List ℕ) (r : ℕ) (fs : Lis
   pub made : (at + length fs) * width ≤ length old → (r ≡ at + length fs) × (from (record_in new) at r ≡ fs)
 
 -- the same said of a lent list, for a contract
-abbrev pub Writes : Lent → ℕ → ℕ → List Fill → Type 0
+abbrev pub Writes : LentMut → ℕ → ℕ → List Fill → Type 0
 Writes list at r fs = Adds list.entry.now at list.exit.now r fs
 
 -- the same with the leg prices of each

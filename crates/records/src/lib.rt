@@ -1,4 +1,6 @@
 // The fill records of a message in a lent list of numbers, as they come; and one of them read back.
+#![tactic(auto)]
+
 ghost use Rattle.std.specs.Prelude.{◌≡◌, List, [], ◌∷◌, ℕ, ◌+◌, ◌<◌, ltb, length};
 ghost use Rattle.rules.specs.Basics.{pick};
 ghost use Rattle.rules.specs.Prices.{biased};

@@ -1,5 +1,7 @@
 // Document 01, "Where a message is turned back": the rows for messages, read from the top, in the words of a state.
 // The conditions of a kind's row are all looked at: an accepted message needs each of them.
+#![tactic(auto)]
+
 ghost use Rattle.std.specs.Prelude.{◌≡◌};
 ghost use Rattle.rules.specs.Basics.{pick, between, first_of};
 ghost use Rattle.rules.specs.State.{reached};
@@ -181,7 +183,7 @@ fn is_clock(b: Body) -> bool
 // "deadline reached".
 pub fn is_reached(longs: &[u64], words: &[u32], time: u64) -> bool
     requires { Sized longs.now words.now }
-    ensures { TellsBoth longs words (λ s. result ≡ reached s.auction time) }
+    ensures { TellsBoth longs.now words.now (λ s. result ≡ reached s.auction time) }
 {
     state::is_set(words[Auction::PENDING]) & (longs[Auction::DEADLINE] <= time)
 }
@@ -197,7 +199,7 @@ fn last_time(longs: &[u64]) -> u64
 // "10 fill list under 2,000 places; 11 time above 10^15 or before the last accepted time; 12 next number above 10^15; 13 deadline reached and not a clock".
 fn every_row(longs: &[u64], words: &[u32], m: Message, room: usize) -> u32
     requires { Sized longs.now words.now }
-    ensures { TellsBoth longs words (λ s. result ≡ first_of (every_row s (message_of m) room)) }
+    ensures { TellsBoth longs.now words.now (λ s. result ≡ first_of (every_row s (message_of m) room)) }
 {
     let body = m.body;
     let over = is_reached(longs, words, m.time) & !is_clock(body);
@@ -211,7 +213,7 @@ fn every_row(longs: &[u64], words: &[u32], m: Message, room: usize) -> u32
 // The number that turns a message back, given the length of its fill list; 0 for none.
 pub fn refusal(longs: &[u64], words: &[u32], m: Message, room: usize) -> u32
     requires { Sized longs.now words.now }
-    ensures { TellsBoth longs words (λ s. result ≡ refusal s (message_of m) room) }
+    ensures { TellsBoth longs.now words.now (λ s. result ≡ refusal s (message_of m) room) }
 {
     let early = every_row(longs, words, m, room);
     if 0 < early {

@@ -157,11 +157,11 @@ named-at f rs ss (e ∷ es) w (inl m) = (e, m, ap head_or w)
     head_or : List ℕ → ℕ
     head_or [] = 0
     head_or (x ∷ xs) = x
-named-at f rs ss (e ∷ es) w (inr n) = named-at f rs ss es (ap tailOf w) n
+named-at f rs ss (e ∷ es) w (inr n) = named-at f rs ss es (ap tail_of w) n
   where
-    tailOf : List ℕ → List ℕ
-    tailOf [] = []
-    tailOf (x ∷ xs) = xs
+    tail_of : List ℕ → List ℕ
+    tail_of [] = []
+    tail_of (x ∷ xs) = xs
 
 fill-same : (f g : Fill) → f.number ≡ g.number → f.order ≡ g.order → f.rank ≡ g.rank → f.contra ≡ g.contra → f.price ≡ g.price → f.units ≡ g.units → f ≡ g
 fill-same f g a b c d e u = λ i. record { number = a i; order = b i; rank = c i; contra = d i; price = e i; units = u i }

@@ -57,10 +57,10 @@ body_said k w f =
 message_said_lem : (p : List ℕ) → message_of p ≡ message_said (meant (fields_of p))
 message_said_lem p =
     let u : Fields = used_fields (uses_of (get_or p 0 0)) (fields_of p) in
-    ap (λ (b : Body). messageWith (fields_of p).time b) (sym (body_said u.kind u.wish_or_leg u))
+    ap (λ (b : Body). message_with (fields_of p).time b) (sym (body_said u.kind u.wish_or_leg u))
   where
-    messageWith : ℕ → Body → Message
-    messageWith t b = record { time = t; body = b }
+    message_with : ℕ → Body → Message
+    message_with t b = record { time = t; body = b }
 
 abbrev blank : ℕ → ℕ → Fields
 blank k t = record { kind = k; side = 0; account = 0; wish_or_leg = 0; id = 0; participant = 0; units = 0; price = pos 0; ask = pos 0; ask_size = 0; time = t }

@@ -1,4 +1,4 @@
--- What the legs offer an order: of `legsOffers` the laws of a turn use no more than this.
+-- What the legs offer an order: of `legs_offers` the laws of a turn use no more than this.
 use mathlib.Core.Path.{◌≡◌, refl, ap}
 use mathlib.Core.Bool.{Bool, true, false, true≢false}
 use mathlib.Core.List.{List, [], ◌∷◌}

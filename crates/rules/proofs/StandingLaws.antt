@@ -111,13 +111,13 @@ module _ (a : Arrivals) where
   unfolding interest
   interest-later m s o v n = front-later m o (legs_offers m s o) s.book (legs_each m s o) (legs_distinct m s o) (entries-later m o s.book n v.order)
 
-  later-upTo : (k : ℕ) (e : Offer) (es : List Offer) → All (Later e) es → All (Later (up_to k e)) (all_up_to k es)
-  later-upTo k e [] t = tt
-  later-upTo k e (f ∷ es) t = (t.0, later-upTo k e es t.1)
+  later-up_to : (k : ℕ) (e : Offer) (es : List Offer) → All (Later e) es → All (Later (up_to k e)) (all_up_to k es)
+  later-up_to k e [] t = tt
+  later-up_to k e (f ∷ es) t = (t.0, later-up_to k e es t.1)
 
-  all-later-upTo : (k : ℕ) (es : List Offer) → Pairwise Later es → Pairwise Later (all_up_to k es)
-  all-later-upTo k [] t = tt
-  all-later-upTo k (e ∷ es) t = (later-upTo k e es t.0, all-later-upTo k es t.1)
+  all-later-up_to : (k : ℕ) (es : List Offer) → Pairwise Later es → Pairwise Later (all_up_to k es)
+  all-later-up_to k [] t = tt
+  all-later-up_to k (e ∷ es) t = (later-up_to k e es t.0, all-later-up_to k es t.1)
 
   -- ---- a turn
 
@@ -129,4 +129,4 @@ module _ (a : Arrivals) where
       let gs : List ℕ = turn o.units near in
       let q : ℕ = (turn-cut o.units near).0 in
       pairs-of-records (s.clock.next - 1) o.id (KeyedAt o.buy) Later (StandsBefore o.buy a) (same-tier (s.clock.next - 1) o.id o.buy) (later-tier (s.clock.next - 1) o.id o.buy)
-      (CutAt q) near gs (turn-cut o.units near).1 (keyed-up_to o.buy k (interest m s o) (keyed m s o v)) (all-later-upTo k (interest m s o) (interest-later m s o v n))
+      (CutAt q) near gs (turn-cut o.units near).1 (keyed-up_to o.buy k (interest m s o) (keyed m s o v)) (all-later-up_to k (interest m s o) (interest-later m s o v n))

@@ -1,4 +1,6 @@
 // The symbols of series: "the options clearing house's OSI form".
+#![tactic(auto)]
+
 ghost use Rattle.std.specs.Prelude.{◌≡◌, ◌&&◌, ◌+◌, ◌-◌, ◌≤◌};
 ghost use Rattle.rules.specs.Basics.{all, between};
 ghost use Rattle.rules.specs.Series.{root_of, is_padded, is_space, digits, good_root, good_date, good_type, good_strike, good_symbol, on_third_friday};
@@ -112,7 +114,7 @@ fn good_symbol(symbol: [u8; 21]) -> bool
 }
 
 // Whether a symbol is well formed, and whether it is so with its date "the third Friday of its month".
-#[derive(Drop)]
+#[derive(Clone, Copy)]
 pub struct Judged {
     pub good: bool,
     pub dated: bool,

@@ -10,7 +10,7 @@ use Rattle.rules.specs.Run.{opening, Sent, after}
 use Rattle.rules.specs.Tape.{header_of, messages_from, tape_refusal, strategy_of}
 use Rattle.rules.specs.Print.{Line, record_lines, refused_lines, lines_of}
 use Rattle.state.specs.View.{state_of}
-use Rattle.state.specs.Lent.{Lent}
+use Rattle.state.specs.Lent.{Lent, LentMut}
 use Rattle.opening.specs.Opens.{opened_by}
 use Rattle.tape.specs.View.{offset_after}
 use Rattle.text.specs.Text.{lines_text}
@@ -90,13 +90,13 @@ pub record Runs (tape : List ℕ) (n : ℕ) (p : Cursor) (most : ℕ) (s : State
 
 -- ---- the same said of the lent slices, for contracts
 
-abbrev pub IsBegun : Lent → Lent → Lent → Start → Type 0
+abbrev pub IsBegun : LentMut → LentMut → Lent → Start → Type 0
 IsBegun longs words tape r = Begins longs.entry.now words.entry.now tape.entry.now longs.exit.now words.exit.now r
 
-abbrev pub Tells : Lent → Lent → Lent → Lent → ℕ → ℕ → Message → ℕ → Type 0
+abbrev pub Tells : LentMut → LentMut → LentMut → LentMut → ℕ → ℕ → Message → ℕ → Type 0
 Tells longs words list out at k m r =
     IsTold k m longs.entry.now words.entry.now list.entry.now out.entry.now at longs.exit.now words.exit.now list.exit.now out.exit.now r
 
-abbrev pub IsRun : Lent → Lent → Lent → Lent → ℕ → Cursor → ℕ → Cursor → Type 0
+abbrev pub IsRun : LentMut → LentMut → LentMut → Lent → ℕ → Cursor → ℕ → Cursor → Type 0
 IsRun longs words out tape n p most r =
     Runs tape.entry.now n p most (state_of longs.entry.now words.entry.now) out.entry.now (state_of longs.exit.now words.exit.now) r out.exit.now

@@ -1,4 +1,6 @@
 // Document 01, "Tape", and M-102: a tape's messages through the engine, and the bytes that each prints. The state stands in two lent slices, the records of a message in a lent list.
+#![tactic(auto)]
+
 ghost use Rattle.std.specs.Prelude.{List, ℕ, ◌*◌, ◌≤◌, length};
 ghost use Rattle.rules.specs.Refusals.{least_room};
 ghost use Rattle.rules.specs.Print.{title_line, refused_line, closing, refused_lines};
@@ -12,7 +14,7 @@ ghost use Rattle.session.specs.Lines.{IsBegun, Tells, IsRun};
 use types::{Fill, Message, Outcome};
 
 // How a tape begins: the number that turns back the tape or its opening, or 0, how many messages there are, and where the first one starts.
-#[derive(Drop)]
+#[derive(Clone, Copy)]
 pub struct Start {
     pub number: u32,
     pub count: usize,
@@ -20,7 +22,7 @@ pub struct Start {
 }
 
 // Between two messages of a tape: how many are behind, where the next one starts, and the offset in the output.
-#[derive(Drop)]
+#[derive(Clone, Copy)]
 pub struct Cursor {
     pub position: usize,
     pub next: usize,

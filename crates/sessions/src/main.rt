@@ -1,10 +1,15 @@
 // Runs the stored sessions, the files 000.tape, 001.tape and so on of its folder, prints what each gives, and how many there were.
+#![tactic(auto)]
+
 ghost use Rattle.std.specs.Prelude.{◌<◌};
 
-use libc::STDOUT_FILENO;
+use output::STDOUT;
+use std::fs::File;
+use std::os::fd::AsRawFd;
+use std::str;
 
 // One session, or false where there is no such file.
-fn run(n: u8) -> bool
+fn run(rt: &HostRuntime, n: u8) -> bool
     requires { n < 200 }
 {
     let path = [
@@ -17,22 +22,24 @@ fn run(n: u8) -> bool
         b'p',
         b'e',
     ];
-    let fd = os::open_read(&path);
-    if fd < 0 {
-        return false;
+    let name = str::from_utf8(&path).unwrap();
+    match File::open(rt, name) {
+        Err(_) => false,
+        Ok(file) => {
+            let mut buf = io::large_buffer();
+            let got = io::read_full(file.as_raw_fd(), &mut buf);
+            drop(file);
+            print::print_tape(&buf[..got]);
+            true
+        }
     }
-    let mut buf = io::large_buffer();
-    let got = io::read_full(fd, &mut buf);
-    libc::close(fd);
-    print::print_tape(&buf[..got]);
-    true
 }
 
-fn main() {
+fn main(rt: HostRuntime) {
     let mut n: u8 = 0;
-    while n < 200 && run(n) {
+    while n < 200 && run(&rt, n) {
         n += 1;
     }
-    io::print_decimal(STDOUT_FILENO, n as u64);
-    io::write_all(STDOUT_FILENO, b" sessions\n");
+    io::print_decimal(STDOUT, n as u64);
+    io::write_all(STDOUT, b" sessions\n");
 }

@@ -30,7 +30,7 @@ max_spot k i m (x ∷ l) =
           elim (dec_lt x (top l)) [
             | yes j ↦ (
                 let e : max x (top l) ≡ top l = omega arith in
-                let a : k + 1 + spot (top l) l ≡ k + (spot (top l) l + 1) = omega arith in
+                let a : k + 1 + spot (top l) l ≡ k + (spot (max x (top l)) l + 1) = rw e (omega arith) in
                 rw (lt-ltb m x h, max_spot (k + 1) k x l, lt-ltb x (top l) j, e, lt-ltb m (top l) (omega arith), ne_eqb x (top l) (λ q. omega arith)) a
                 )
             | no j ↦ (
@@ -43,7 +43,7 @@ max_spot k i m (x ∷ l) =
           elim (dec_lt m (top l)) [
             | yes j ↦ (
                 let e : max x (top l) ≡ top l = omega arith in
-                let a : k + 1 + spot (top l) l ≡ k + (spot (top l) l + 1) = omega arith in
+                let a : k + 1 + spot (top l) l ≡ k + (spot (max x (top l)) l + 1) = rw e (omega arith) in
                 rw (le-ltb m x (omega arith), max_spot (k + 1) i m l, lt-ltb m (top l) j, e, lt-ltb m (top l) j, ne_eqb x (top l) (λ q. omega arith)) a
                 )
             | no j ↦ (
@@ -209,6 +209,10 @@ none_left a t (s ∷ ss) h = let z : s ≡ 0 = omega arith in rw (z, mul-zero, z
 none_turn : (a : ℕ) (ss : List ℕ) → sum ss ≡ 0 → in_turn a ss ≡ zeros ss
 none_turn a ss h = sum-zero (in_turn a ss) ss (in_turn-below a ss) (omega (arith, below-sum (in_turn a ss) ss (in_turn-below a ss)))
 
+-- a size of 0 has no part
+zero_part : (a t s : ℕ) (ss : List ℕ) → s ≡ 0 → parts a t (s ∷ ss) ≡ record { got = 0; left = 0 } ∷ parts a t ss
+zero_part a t s ss z = rw (z, mul-zero, zero-div, zero-mod)
+
 shares-first : (a : ℕ) (ss : List ℕ) → sum ss ≡ 0 → set (in_turn a ss) 0 a ≡ shares a ss
 unfolding shares in_turn
 shares-first a [] h = sym (ap gots (give_nobody (a - 0)))
@@ -216,7 +220,7 @@ shares-first a (s ∷ ss) h =
     let z : s ≡ 0 = omega arith in
     let n : sum ss ≡ 0 = omega arith in
     let t : ℕ = s + sum ss in
-    let e : parts a t (s ∷ ss) ≡ record { got = 0; left = 0 } ∷ parts a t ss = rw (z, mul-zero, zero-div, zero-mod) in
+    let e : parts a t (s ∷ ss) ≡ record { got = 0; left = 0 } ∷ parts a t ss = zero_part a t s ss z in
     let q : 0 + (a - (0 + sum (zeros ss))) ≡ a = omega (arith, sum_zeros ss) in
     let g : a ∷ in_turn (a - s) ss ≡ gots (leftover (a - (0 + sum (gots (parts a t ss)))) (record { got = 0; left = 0 } ∷ parts a t ss)) =
     rw (none_turn (a - s) ss n, none_got a t ss n, give_first (a - (0 + sum (zeros ss))) 0 (parts a t ss) (none_left a t ss n), q, none_got a t ss n) in

@@ -1,4 +1,6 @@
 // Document 01, "Execution": an amount shared by size, and an amount given by arrival, over the first slots of arrays of 66.
+#![tactic(auto)]
+
 ghost use Rattle.std.specs.Prelude.{◌≡◌, ◌<◌, ◌≤◌, min, length, take, drop};
 ghost use Rattle.rules.specs.Basics.{sum};
 ghost use Rattle.rules.specs.Share.{parts, gots, lefts, shares, in_turn};

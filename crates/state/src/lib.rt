@@ -1,5 +1,7 @@
 // One strategy's state in two lent slices: longs of 64 bits and words of 32 bits.
 // Where a number stands is a constant of the thing that it belongs to. What the slices stand for in the rules is their view, `state_of` in specs/View.antt: every value of every word has a meaning there.
+#![tactic(auto)]
+
 ghost use Rattle.std.specs.Prelude.{◌≡◌};
 ghost use Rattle.rules.specs.State.{is_pending};
 ghost use Rattle.state.specs.Layout.{WordsSized, is_sized};
@@ -222,7 +224,7 @@ pub fn is_pending(words: &[u32]) -> bool
 // ---- entries
 
 // An entry as it stands in the state: sides, accounts and stages are words.
-#[derive(Drop)]
+#[derive(Clone, Copy)]
 pub struct Entry {
     pub arrival: u64,
     pub id: u32,

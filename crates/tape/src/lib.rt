@@ -1,4 +1,6 @@
 // Document 01, "Tape": from bytes to an opening and messages. What is read past the end of a tape is 0.
+#![tactic(auto)]
+
 ghost use Rattle.std.specs.Prelude.{◌≡◌, min, ltb, pos, drop};
 ghost use Rattle.rules.specs.Basics.{pick};
 ghost use Rattle.rules.specs.Messages.{order, reduce};
@@ -17,7 +19,7 @@ mod wire;
 // ---- header
 
 // "16-bit leg count, leg offset, message count, message offset, .."; then the settings.
-#[derive(Drop)]
+#[derive(Clone, Copy)]
 pub struct Header {
     pub legcount: u16,
     pub legoffset: u16,
@@ -70,7 +72,7 @@ pub fn header_of(t: &[u8]) -> Header
 // ---- the fields that a kind uses
 
 // A row of flags, but for the time, which all kinds use.
-#[derive(Drop)]
+#[derive(Clone, Copy)]
 pub struct Uses {
     pub side: bool,
     pub account: bool,
@@ -224,7 +226,7 @@ pub fn uses_of(kind: u8) -> Uses
 
 // The fields of a message record. The fourth byte is an order's auction wish or a quote's leg; units and price are a quote's bid size and bid. Hosts hand it over.
 #[repr(C)]
-#[derive(Drop)]
+#[derive(Clone, Copy)]
 pub struct Fields {
     pub kind: u8,
     pub side: u8,
@@ -502,7 +504,7 @@ pub fn leg_of(p: &[u8]) -> Leg
 // ---- sections
 
 // The bytes of a section: where they start, and how many they are.
-#[derive(Drop)]
+#[derive(Clone, Copy)]
 pub struct Section {
     pub start: u32,
     pub size: u32,
@@ -662,14 +664,14 @@ pub fn strategy_of(t: &[u8]) -> Opening
 // ---- the reader
 
 // "The tape reader carries the tape with its position from record to record."
-#[derive(Drop)]
+#[derive(Clone, Copy)]
 pub struct TapeReader<'a> {
     pub tape: &'a [u8],
     pub at: usize,
 }
 
 // A message, and the offset behind its record.
-#[derive(Drop)]
+#[derive(Clone, Copy)]
 pub struct Taken {
     pub message: Message,
     pub next: usize,

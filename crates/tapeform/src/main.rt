@@ -1,4 +1,6 @@
 // tapeform: reads a tape on standard input and writes its form (document 02, M-100), or the line of a tape that is turned back.
+#![tactic(auto)]
+
 ghost use Rattle.std.specs.Prelude.{◌≡◌, ◌≤◌, length};
 ghost use Rattle.output.specs.Counted.{counted};
 ghost use Rattle.tapeform.specs.Forms.{form_text};

@@ -2,7 +2,7 @@
 use Rattle.std.specs.Prelude.{◌≡◌, List, ℕ, ◌+◌, ◌≤◌, ◌<◌, min, length}
 use Rattle.std.proofs.lemmas.List.Edits.{sets}
 use Rattle.rules.specs.Print.{Line}
-use Rattle.state.specs.Lent.{Lent}
+use Rattle.state.specs.Lent.{LentMut}
 use Rattle.text.specs.Text.{line_text, lines_text}
 
 -- the bytes of a line, at most
@@ -23,13 +23,13 @@ pub record PutsFirst (first : ℕ → List ℕ) (most more : ℕ) (lent : List �
 -- ---- said of a lent output, for contracts
 
 -- these bytes, of which there are at most so many
-abbrev pub PutsText : List ℕ → ℕ → Lent → ℕ → ℕ → Type 0
+abbrev pub PutsText : List ℕ → ℕ → LentMut → ℕ → ℕ → Type 0
 PutsText bytes most out at r = Puts bytes out.entry.now at r out.exit.now × (length bytes ≤ most)
 
 -- some lines
-abbrev pub PutsLines : List Line → ℕ → Lent → ℕ → ℕ → Type 0
+abbrev pub PutsLines : List Line → ℕ → LentMut → ℕ → ℕ → Type 0
 PutsLines lines = PutsText (lines_text lines)
 
 -- one line
-abbrev pub PutsLine : Line → Lent → ℕ → ℕ → Type 0
+abbrev pub PutsLine : Line → LentMut → ℕ → ℕ → Type 0
 PutsLine line = PutsText (line_text line) most_line

@@ -1,4 +1,6 @@
 // The bytes of an output line, of tapeprint (document 01, "Tape", and M-102) or of live (M-106), written at the start of a lent buffer; and lines put into an output.
+#![tactic(auto)]
+
 ghost use Rattle.std.specs.Prelude.{◌≡◌, [], ◌∷◌, ◌++◌, ◌+◌, ◌*◌, ◌<◌, ◌≤◌, min, pos, nat_abs, length, take};
 ghost use Rattle.std.proofs.lemmas.List.Edits.{sets};
 ghost use Rattle.std.specs.Int.Signed.{lt_z};

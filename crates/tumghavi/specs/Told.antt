@@ -7,7 +7,7 @@ use Rattle.rules.specs.Outcome.{Cause, by_time, by_order, by_legs, by_cancel, No
 use Rattle.rules.specs.Step as R
 use Rattle.rules.specs.Tape.{Fields, message_bytes, fields_of}
 use Rattle.state.specs.View.{state_of}
-use Rattle.state.specs.Lent.{Lent}
+use Rattle.state.specs.Lent.{LentMut}
 use Rattle.records.specs.Records.{width}
 use Rattle.engine.specs.Steps.{records_in, all_prices_in}
 use Rattle.feed.specs.Replies.{answer_of}
@@ -70,5 +70,5 @@ pub record IsTold (longs words list : List ℕ) (f : Fields) (longs' words' list
   pub refused : r.kind ≡ 6 → (longs' ≡ longs) × (words' ≡ words) × (list' ≡ list)
 
 -- the same of the lent arrays, for a contract
-abbrev pub Told : Lent → Lent → Lent → Fields → Outcome → Type 0
+abbrev pub Told : LentMut → LentMut → LentMut → Fields → Outcome → Type 0
 Told longs words list f r = IsTold longs.entry.now words.entry.now list.entry.now f longs.exit.now words.exit.now list.exit.now r

@@ -1,4 +1,6 @@
 // For hosts in C and Rust: a copy of the engine in two arrays that the host keeps, the average price of an order, and a tape's output and its form as bytes.
+#![tactic(auto)]
+
 ghost use Rattle.std.specs.Prelude.{◌≡◌, min, length, drop};
 ghost use Rattle.std.proofs.lemmas.List.Edits.{sets};
 ghost use Rattle.rules.specs.Book.{count, is_response};
@@ -36,7 +38,7 @@ const NUMBERS: usize = Record::NUMBERS * Fill::LEAST_ROOM;
 
 // What a message is answered with: kind, cause of an end, number of a refusal, fills, units open or in the queue, deadline. What the outcome does not have is 0.
 #[repr(C)]
-#[derive(Drop)]
+#[derive(Clone, Copy)]
 pub struct Outcome {
     pub kind: u32,
     pub cause: u32,
@@ -113,7 +115,7 @@ fn numbers_of(o: types::Outcome) -> Outcome
 
 // The average price of an order: kind, quotient and remainder. Where there is none both are 0.
 #[repr(C)]
-#[derive(Drop)]
+#[derive(Clone, Copy)]
 pub struct Average {
     pub kind: u32,
     pub quotient: i64,

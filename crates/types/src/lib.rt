@@ -1,10 +1,11 @@
 // The engine's types. Each bound of document 01 is an associated constant of the thing that it limits.
 // What a value stands for in the rules is its view, in specs/View.antt. Prices inside are cents + 40,000,000.
 // An opening, with all that it is made of, is laid out as in C: hosts hand it over.
+#![tactic(auto)]
 
 // "A leg has a 21-byte symbol .., a side B or S as seen by a buyer of the strategy, a ratio, and a minimum price step".
 #[repr(C)]
-#[derive(Drop)]
+#[derive(Clone, Copy)]
 pub struct Leg {
     pub symbol: [u8; 21],
     pub side: u8,
@@ -35,7 +36,7 @@ impl Leg {
 
 // The amounts of the filter, for an MPV of 1, 5 and 10.
 #[repr(C)]
-#[derive(Drop)]
+#[derive(Clone, Copy)]
 pub struct Amounts {
     pub one: u16,
     pub five: u16,
@@ -48,7 +49,7 @@ impl Amounts {
 
 // The class settings, the first arrival number and the opening's time.
 #[repr(C)]
-#[derive(Drop)]
+#[derive(Clone, Copy)]
 pub struct Settings {
     pub first: u64,
     pub time: u64,
@@ -78,7 +79,7 @@ impl Settings {
 
 // What is opened: the legs in use are the first `count`.
 #[repr(C)]
-#[derive(Drop)]
+#[derive(Clone, Copy)]
 pub struct Opening {
     pub legs: [Leg; 4],
     pub count: usize,
@@ -92,7 +93,7 @@ impl Opening {
 }
 
 // A leg's local sides, price and size both 0 for absent, and its national prices, 0 for absent.
-#[derive(Drop)]
+#[derive(Clone, Copy)]
 pub struct Quote {
     pub bid: u32,
     pub bidsize: u32,
@@ -112,14 +113,14 @@ impl Quote {
 }
 
 // A derived price with its units; 0 units is none.
-#[derive(Drop)]
+#[derive(Clone, Copy)]
 pub struct Derived {
     pub price: u64,
     pub units: u32,
 }
 
 // A local quote.
-#[derive(Drop)]
+#[derive(Clone, Copy)]
 pub struct Local {
     pub leg: u8,
     pub bidsize: u32,
@@ -129,7 +130,7 @@ pub struct Local {
 }
 
 // A national quote.
-#[derive(Drop)]
+#[derive(Clone, Copy)]
 pub struct National {
     pub leg: u8,
     pub bid: i32,
@@ -137,7 +138,7 @@ pub struct National {
 }
 
 // An order, with its auction wish.
-#[derive(Drop)]
+#[derive(Clone, Copy)]
 pub struct Order {
     pub side: u8,
     pub account: u8,
@@ -162,7 +163,7 @@ impl Order {
 }
 
 // A response.
-#[derive(Drop)]
+#[derive(Clone, Copy)]
 pub struct Response {
     pub side: u8,
     pub account: u8,
@@ -173,7 +174,7 @@ pub struct Response {
 }
 
 // A modification of a response.
-#[derive(Drop)]
+#[derive(Clone, Copy)]
 pub struct Modify {
     pub side: u8,
     pub id: u32,
@@ -183,14 +184,14 @@ pub struct Modify {
 }
 
 // The cancel of an order.
-#[derive(Drop)]
+#[derive(Clone, Copy)]
 pub struct Cancel {
     pub id: u32,
     pub participant: u32,
 }
 
 // M-105: an order reduced to these open units.
-#[derive(Drop)]
+#[derive(Clone, Copy)]
 pub struct Reduce {
     pub id: u32,
     pub participant: u32,
@@ -198,7 +199,7 @@ pub struct Reduce {
 }
 
 // The eight kinds.
-#[derive(Drop)]
+#[derive(Clone, Copy)]
 pub enum Body {
     Local(Local),
     National(National),
@@ -210,14 +211,14 @@ pub enum Body {
     Reduce(Reduce),
 }
 
-#[derive(Drop)]
+#[derive(Clone, Copy)]
 pub struct Message {
     pub time: u64,
     pub body: Body,
 }
 
 // "rank L, legs; C, customer orders and responses; N, non-customer ones; T, late legs"; outside an auction R.
-#[derive(Drop)]
+#[derive(Clone, Copy)]
 pub enum Rank {
     L,
     C,
@@ -227,21 +228,21 @@ pub enum Rank {
 }
 
 // "A contra is either the legs or an open entry with its id".
-#[derive(Drop)]
+#[derive(Clone, Copy)]
 pub enum Contra {
     Legs,
     Entry(u32),
 }
 
 // M-106: whether a fill record has leg prices, and of how many legs; the prices stand beside it.
-#[derive(Drop)]
+#[derive(Clone, Copy)]
 pub enum LegPrices {
     Unpriced,
     Priced(u32),
 }
 
 // A fill record; the price is in signed cents. The leg prices are those of the first legs, in cents, 0 behind them.
-#[derive(Drop)]
+#[derive(Clone, Copy)]
 pub struct Fill {
     pub number: u64,
     pub price: i64,
@@ -262,7 +263,7 @@ impl Fill {
 }
 
 // "cause: time, order or legs"; M-105: "a fourth cause, cancel".
-#[derive(Drop)]
+#[derive(Clone, Copy)]
 pub enum Cause {
     Time,
     Order,
@@ -283,7 +284,7 @@ impl Refusal {
 }
 
 // "The answer to a message is one of six outcomes".
-#[derive(Drop)]
+#[derive(Clone, Copy)]
 pub enum Outcome {
     Noted(u32),
     Placed(u32, u32),

@@ -1,0 +1,13 @@
+use mathlib.Core.Path.{◌≡◌}
+use mathlib.Core.Bool.{false, not}
+use Prim.Native.Nat.{ℕ, ◌+◌, ◌-◌, ◌≤◌, ◌<◌}
+use lib.Dec.{eqb}
+use lib.ListN.{length, get_or}
+use Rattle.state.specs.View.{open_count}
+use Rattle.book.proofs.changes.others.Given as goal
+
+abbrev pub invariant-loop-k : goal.invariant-loop-k
+invariant-loop-k l = (l.k ≤ l.m) × (l.m ≡ open_count l.words) × (length l.keep ≡ 64) × ((i : ℕ) → i < l.k → get_or l.keep i false ≡ not (eqb (get_or l.words (l.a + i) 0) l.x))
+
+abbrev pub decreases-loop-k : goal.decreases-loop-k
+decreases-loop-k l = l.m - l.k

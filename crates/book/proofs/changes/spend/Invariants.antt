@@ -1,0 +1,16 @@
+use mathlib.Core.Path.{◌≡◌}
+use Prim.Native.Nat.{◌+◌, ◌-◌, ◌≤◌}
+use lib.Dec.{eqb}
+use lib.ListN.{get_or}
+use Rattle.rules.specs.Basics.{pick}
+use Rattle.state.specs.Layout as L
+use Rattle.state.specs.View.{open_count}
+use Rattle.book.proofs.PassLaws.{Passed}
+use Rattle.book.proofs.changes.spend.Given as goal
+
+abbrev pub invariant-loop-k : goal.invariant-loop-k
+invariant-loop-k l =
+    (l.k ≤ l.m) × (l.m ≡ open_count l.initial.words) × Passed L.units (λ i u. u ≡ get_or l.initial.words (L.units + i) 0 - pick (eqb (get_or l.initial.words (L.ids + i) 0) l.id) l.took (get_or l.gave (i + 2) 0)) l.initial.words l.words l.k
+
+abbrev pub decreases-loop-k : goal.decreases-loop-k
+decreases-loop-k l = l.m - l.k

@@ -1,0 +1,13 @@
+use mathlib.Core.Path.{◌≡◌}
+use mathlib.Core.List.{List}
+use Prim.Native.Nat.{ℕ, ◌-◌, ◌≤◌}
+use lib.Dec.{eqb}
+use Rattle.state.specs.View.{entry_at, open_count}
+use Rattle.book.proofs.ScanLaws.{Seen}
+use Rattle.book.proofs.is_open.Given as goal
+
+abbrev pub invariant-loop-k : goal.invariant-loop-k
+invariant-loop-k l = (l.k ≤ l.m) × (l.m ≡ open_count l.words) × ((longs : List ℕ) → Seen l.seen (λ e. eqb e.id l.id) (entry_at longs l.words) l.k l.m)
+
+abbrev pub decreases-loop-k : goal.decreases-loop-k
+decreases-loop-k l = l.m - l.k

@@ -1,0 +1,23 @@
+use mathlib.Core.Path.{ap, ◌∙◌}
+use Rattle.rules.specs.Prices.{biased}
+use Rattle.rules.specs.Book.{answer}
+use Rattle.state.specs.View.{flag}
+use mir.Syntax.{w32}
+use mir.Facts.{to_z-of_z}
+use borrow.Author.Rules.{rules}
+use Rattle.intake.proofs.modified_entry.Goals as goal
+
+pub returns : goal.returns
+returns c =
+    let a = c.args in
+    λ i.
+    record {
+      id = a.e.id;
+      participant = a.e.participant;
+      buy = c.word_of.ensures i;
+      customer = flag a.e.customer;
+      price = (c.biased.ensures ∙ ap biased (to_z-of_z {w = w32} {z = a.t.price} (search rules))) i;
+      units = a.t.units;
+      arrival = a.number;
+      stage = answer;
+    }

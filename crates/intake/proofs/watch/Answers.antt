@@ -1,0 +1,27 @@
+use mathlib.Core.Path.{refl}
+use Rattle.intake.proofs.watch.Goals as goal
+
+pub returns-in-Local : goal.returns-in-Local
+returns-in-Local c =
+    rw c.in-Local.is c.look.ensures
+
+pub returns-in-National : goal.returns-in-National
+returns-in-National c = rw c.in-National.is refl
+
+pub returns-in-Order : goal.returns-in-Order
+returns-in-Order c = rw c.in-Order.is refl
+
+pub returns-in-Response : goal.returns-in-Response
+returns-in-Response c = rw c.in-Response.is refl
+
+pub returns-in-Modify : goal.returns-in-Modify
+returns-in-Modify c = rw c.in-Modify.is refl
+
+pub returns-in-Cancel : goal.returns-in-Cancel
+returns-in-Cancel c = rw c.in-Cancel.is refl
+
+pub returns-in-Clock : goal.returns-in-Clock
+returns-in-Clock c = rw c.in-Clock.is refl
+
+pub returns-in-Reduce : goal.returns-in-Reduce
+returns-in-Reduce c = rw c.in-Reduce.is refl

@@ -1,0 +1,11 @@
+use mathlib.Core.Path.{◌≡◌}
+use Prim.Native.Nat.{◌-◌, ◌≤◌}
+use Rattle.state.specs.View.{leg_count}
+use Rattle.legprices.proofs.RangeLaws.{Taking}
+use Rattle.legprices.proofs.quoted.prices_taken.Given as goal
+
+abbrev pub invariant-loop-k : goal.invariant-loop-k
+invariant-loop-k l = (l.k ≤ l.n) × (l.n ≡ leg_count l.words) × Taking l.words l.buy l.lowered l.taken l.prices l.k
+
+abbrev pub decreases-loop-k : goal.decreases-loop-k
+decreases-loop-k l = l.n - l.k

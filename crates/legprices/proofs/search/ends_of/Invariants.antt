@@ -1,0 +1,16 @@
+use mathlib.Core.Path.{◌≡◌}
+use Prim.Native.Nat.{◌+◌, ◌-◌, ◌*◌, ◌≤◌}
+use Rattle.types.specs.View.{from}
+use Rattle.legprices.specs.Sums.{spans_from}
+use Rattle.legprices.specs.Ranges.{range_at}
+use Rattle.legprices.specs.Found.{least_paid, most_got, greatest}
+use Rattle.legprices.proofs.search.ends_of.Given as goal
+
+abbrev pub invariant-loop-i : goal.invariant-loop-i
+invariant-loop-i l = (l.i ≤ l.n)
+    × (l.paid ≤ l.i * 90000000000) × (l.paid + least_paid (from (range_at l.plus l.ratios l.bids l.widths) l.i l.n) ≡ least_paid (from (range_at l.plus l.ratios l.bids l.widths) 0 l.n))
+    × (l.got ≤ l.i * 90000000000) × (l.got + most_got (from (range_at l.plus l.ratios l.bids l.widths) l.i l.n) ≡ most_got (from (range_at l.plus l.ratios l.bids l.widths) 0 l.n))
+    × (l.most ≤ l.i * 90000000000) × (l.most + greatest (spans_from l.ratios l.widths l.i l.n) ≡ greatest (spans_from l.ratios l.widths 0 l.n))
+
+abbrev pub decreases-loop-i : goal.decreases-loop-i
+decreases-loop-i l = l.n - l.i

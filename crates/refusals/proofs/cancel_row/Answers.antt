@@ -1,0 +1,4 @@
+use Rattle.refusals.proofs.cancel_row.Goals as goal
+
+pub returns : goal.returns
+returns c = λ longs. rw (c.first.ensures, (c.standing_of-known.ensures longs).0)

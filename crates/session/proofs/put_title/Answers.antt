@@ -1,0 +1,5 @@
+use Rattle.text.proofs.PutsLaws.{puts_line}
+use Rattle.session.proofs.put_title.Goals as goal
+
+pub returns : goal.returns
+returns c = let l = c.put_title-n.ensures in puts_line _ _ _ _ _ _ _ _ l.0 l.1 l.2 c.add.ensures

@@ -1,0 +1,4 @@
+use Rattle.sessions.proofs.main.Goals as goal
+
+pub returns : goal.returns
+returns c = tt

@@ -1,0 +1,5 @@
+-- The digits but the last are those of a tenth.
+use Rattle.text.proofs.+put_digits.Given as goal
+
+abbrev pub decreases-put_digits : goal.decreases-put_digits
+decreases-put_digits l = l.n

@@ -1,0 +1,8 @@
+use native.Mathlib.Omega.{arith}
+use Rattle.text.proofs.WroteLaws.{join}
+use Rattle.text.proofs.put_next.Goals as goal
+
+pub returns : goal.returns
+returns c =
+    let b = c.put_byte-at.ensures.0 in
+    (join b c.put_number.ensures.0, c.put_number.ensures.1, omega (arith, b.end))
