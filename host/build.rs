@@ -1,4 +1,4 @@
-//! Links the proved library, which `rt staticlib tumghavi` writes.
+//! Links the proved library, which `./build tumghavi` writes.
 fn main() {
     let dir = std::env::var("CARGO_MANIFEST_DIR").expect("cargo sets it");
     println!("cargo:rustc-link-search=native={dir}/../target/staticlib");

@@ -16,7 +16,7 @@ struct Program {
     built_by: &'static str,
 }
 
-const PROVED: Program = Program { place: "target/bin/live", built_by: "rt check live" };
+const PROVED: Program = Program { place: "target/bin/live", built_by: "./build live" };
 const PLAIN: Program = Program {
     place: "second/target/release/second",
     built_by: "cargo build --release --manifest-path second/Cargo.toml",

@@ -1,5 +1,5 @@
 /*
- * The proved auction engine for hosts in C and C++. Link libtumghavi.a, which `rt staticlib tumghavi` writes to target/staticlib.
+ * The proved auction engine for hosts in C and C++. Link libtumghavi.a, which `./build tumghavi` writes to target/staticlib.
  *
  * A host keeps a copy of the engine in a tumghavi_copy of its own, opens it once, and has each message answered in place.
  * Every value of every field is answered: a wrong one is refused with a number of docs/NUMBERS.md, and a refused message

@@ -12,7 +12,7 @@ use std::sync::mpsc::{channel, Receiver};
 use std::thread;
 use std::time::{Duration, Instant};
 
-/// The proved program, which `rt check live` builds.
+/// The proved program, which `./build live` builds.
 const LIVE: &str = concat!(env!("CARGO_MANIFEST_DIR"), "/../target/bin/live");
 
 /// How long an answer is waited for.
@@ -131,7 +131,7 @@ impl Copy {
             .stdin(Stdio::piped())
             .stdout(Stdio::piped())
             .spawn()
-            .expect("`rt check live` builds target/bin/live");
+            .expect("`./build live` builds target/bin/live");
         let input = child.stdin.take().expect("it is piped");
         let mut from = child.stdout.take().expect("it is piped");
         let (to, output) = channel();
@@ -312,7 +312,7 @@ fn few_calls() {
         .env("CALLS", &calls)
         .stdin(File::open(&sent).expect("it was written"))
         .output()
-        .expect("`rt check live` builds target/bin/live");
+        .expect("`./build live` builds target/bin/live");
     assert!(child.stdout == answers(&input).concat());
     let calls: usize = fs::read_to_string(&calls).expect("the counter tells").parse().expect("a number");
     assert!((1..=2_000).contains(&calls), "{calls} calls");
