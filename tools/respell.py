@@ -5,7 +5,8 @@ usage: tools/respell.py        at the top of the repository
        tools/respell.py --list the names alone, old and new
 
 A word is in snake case: mostUnits is most_units, put-first is put_first. A dash stays where it joins two names, as in after-append.
-A lemma that would have a definition's name gets _lem. Types and modules, functions of src/, exported names, strings and what Rattle
+A lemma that would have a definition's name gets _lem, and one that would have the name of a word of std that its file imports keeps its
+own. Types and modules, functions of src/, exported names, strings and what Rattle
 itself makes (the names of goals in proofs/F/) stay as they are. Text in .md files is turned between backticks only.
 """
 
@@ -16,7 +17,7 @@ import re
 import sys
 
 DEFS = r"(?:(?:abbrev|unfoldable|opaque|pub|instance)\s+)*"
-TOKEN = re.compile(r'"(?:\\.|[^"\\\n])*"|[^\s(){}\[\],;.:"|@λ→×]+')
+TOKEN = re.compile(r'"(?:\\.|[^"\\\n])*"|[^\s(){}\[\],;.:"|@`λ→×]+')
 # Words that a library's lemmas are named after.
 JOINS = set("append map take drop set length sum reverse zero suc one nil cons min max add mul sub eq le lt".split())
 
@@ -61,9 +62,13 @@ def read(path):
 def names():
     """What is renamed: old to new."""
     shared, parts, local = set(), set(), set()
+    own = set()
     for f in files("crates/*/specs/**/*.antt", "crates/*/proofs/*.antt"):
-        for name, kind in declared(read(f)):
+        text = read(f)
+        for name, kind in declared(text):
             (parts if kind == "part" else shared).add(name)
+            if "-" in name and name.replace("-", "_") in from_std(text):
+                own.add(name)
     for f in files("crates/*/proofs/*/**/*.antt"):
         for name, kind in declared(read(f)):
             local.add(name)
@@ -81,7 +86,7 @@ def names():
         return "_".join([first, *rest])
 
     for name in sorted(shared | parts | {n for n in local if "-" not in n}):
-        if not re.match(r"[a-z]", name) or name.startswith("--"):
+        if not re.match(r"[a-z]", name) or name.startswith("--") or name in own:
             continue
         to = joined(name) if "-" in name and (name in shared or name in parts) else snake(name) if "-" not in name else name
         if to != name:
@@ -120,6 +125,17 @@ def from_std(text):
     return found
 
 
+def sweep():
+    """Turns what is declared inside another definition, or is part of a lemma's name, in the shared files of proofs/."""
+    for f in files("crates/*/proofs/*.antt"):
+        text = read(f)
+        camel = {w for w in TOKEN.findall(text) if re.match(r"[a-z]", w) and re.search(r"[a-z][A-Z]", w)} - from_std(text)
+        done = TOKEN.sub(lambda m: snake(m[0]) if m[0] in camel else m[0], text)
+        if done != text:
+            with open(f, "w", encoding="utf-8") as out:
+                out.write(done)
+
+
 def main(argv):
     new, fields = names()
     if "--list" in argv:
@@ -133,6 +149,7 @@ def main(argv):
         if done != text:
             with open(f, "w", encoding="utf-8") as out:
                 out.write(done)
+    sweep()
     for f in files("README.md", "docs/**/*.md"):
         text = read(f)
         done = re.sub(r"`[^`\n]+`", lambda m: turn(m[0], new, fields, True), text)
