@@ -1,10 +1,9 @@
 -- A number that may pass 64 bits, by its quotient and remainder by some units; and what an average stands for in the rules.
-use Rattle.std.specs.Prelude.{◌≡◌, List, ℕ, ◌+◌, ◌*◌, ◌≤◌, ◌<◌}
+use Rattle.std.specs.Prelude.{◌≡◌, Option, Some, None, List, ℕ, ◌+◌, ◌*◌, ◌≤◌, ◌<◌}
 use Rattle.rules.specs.Average as A
 use Rattle.average.specs.Sums.{first_records}
 use Rattle.average.specs.declared.Parts.{Parts}
 use Rattle.average.specs.declared.Average.{Average}
-use Rattle.average.specs.declared.Average.TheVariants.{None, Exact}
 
 -- the units of 2,000 records, at most
 abbrev pub most_units : ℕ
@@ -28,10 +27,10 @@ pub record Whole (units x : ℕ) (d : Parts) : Type 0 where
   pub below : d.remainder < units
 
 -- an average, as the rules have it
-abbrev pub average_of : Average → A.Average
+abbrev pub average_of : Option Average → A.Average
 average_of None = A.none
-average_of (Exact q r) = A.exact q r
+average_of (Some a) = A.exact a.quotient a.remainder
 
 -- that of an order over the first n records of a list
-abbrev pub IsAverage : List ℕ → ℕ → ℕ → Average → Type 0
+abbrev pub IsAverage : List ℕ → ℕ → ℕ → Option Average → Type 0
 IsAverage l n i r = average_of r ≡ A.average_for i (first_records l n)

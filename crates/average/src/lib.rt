@@ -12,11 +12,11 @@ ghost use Rattle.average.specs.Parts.{Divides, Fits, whole, Whole, IsAverage};
 
 use types::Fill;
 
-// "none", or the quotient and the remainder.
-#[derive(Clone, Copy)]
-pub enum Average {
-    None,
-    Exact(i64, u64),
+// An average: the quotient and the remainder.
+#[derive(Clone, Copy, PartialEq, Eq)]
+pub struct Average {
+    pub quotient: i64,
+    pub remainder: u64,
 }
 
 // A number by its quotient and remainder.
@@ -106,10 +106,8 @@ fn units_of(list: &[u64], n: usize, order: u32) -> u64
     ensures { (result ≡ units_for order (from (record_at list.now) 0 n)) × (result ≤ n * 4_294_967_295) }
 {
     let mut units: u64 = 0;
-    let mut i = 0;
-    while i < n {
+    for i in 0..n {
         units += units_named(list, i, order) as u64;
-        i += 1;
     }
     units
 }
@@ -133,27 +131,28 @@ fn sum_of(list: &[u64], n: usize, order: u32, units: u64) -> Parts
     ensures { Whole units (paid_for order (from (record_at list.now) 0 n)) result }
 {
     let mut total = parts_of(units, 0);
-    let mut i = 0;
-    while i < n {
+    for i in 0..n {
         total = with_record(list, i, order, units, total);
-        i += 1;
     }
     total
 }
 
 // ---- what others call
 
-// The average of an order over the first n records of a list, of which a message has at most 2,000.
-pub fn average_of(list: &[u64], n: usize, order: u32) -> Average
+// The average of an order over the first n records of a list, of which a message has at most 2,000; "none" where none of them gives it units.
+pub fn average_of(list: &[u64], n: usize, order: u32) -> Option<Average>
     ensures { IsAverage list.now n order result }
 {
-    let count = number::lesser_size(n, Fill::LEAST_ROOM);
+    let count = n.min(Fill::LEAST_ROOM);
     let units = units_of(list, count, order);
     if units == 0 {
-        return Average::None;
+        return None;
     }
     let total = sum_of(list, count, order, units);
-    Average::Exact(price::cents(total.quotient), total.remainder)
+    Some(Average {
+        quotient: price::cents(total.quotient),
+        remainder: total.remainder,
+    })
 }
 
 // Whether no record before a place names the order of the record there.
@@ -161,9 +160,7 @@ pub fn is_first(list: &[u64], j: usize) -> bool
     ensures { result ≡ not (named (record_at list.now j).order (from (record_at list.now) 0 j)) }
 {
     let order = records::order_at(list, j);
-    let mut i = j;
-    while 0 < i {
-        i -= 1;
+    for i in (0..j).rev() {
         if records::order_at(list, i) == order {
             return false;
         }

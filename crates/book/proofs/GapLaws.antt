@@ -1,166 +1,44 @@
--- One entry leaves: those behind it move by one place, four at a time or one by one.
+-- One entry leaves: those behind it move by one place.
 use mathlib.Core.Path.{◌≡◌, refl, ap, sym, ◌∙◌}
 use mathlib.Core.Bool.{Bool, true, false, not}
-use mathlib.Core.List.{List, [], ◌∷◌, ◌++◌}
+use mathlib.Core.List.{List, ◌++◌}
 use Prim.Native.Nat.{ℕ, zero, suc, ◌+◌, ◌-◌, ◌*◌, ◌≤◌, ◌<◌}
 use native.Mathlib.Decide.{ℕ_discrete, dec_lt}
 use native.Mathlib.Omega.{arith}
-use borrow.Author.Count.{below_more}
 use borrow.Author.Tests.{eq-eqb, ne_eqb}
 use lib.Dec.{eqb}
-use lib.ListN.{length, get_or, set}
+use lib.ListN.{get_or, set}
+use Rattle.std.specs.List.{CopiedTo, SameBelow, SameFrom}
 use Rattle.rules.specs.Book.{Entry, nobody, find, only, without}
 use Rattle.rules.specs.State.{with_book}
 use Rattle.types.specs.View.{upto, from, stage_of}
 use Rattle.state.specs.Layout as L
 use Rattle.state.specs.Layout.{Sized}
-use Rattle.state.specs.View.{flag, entry_of, entry_at, open_count, entries_of, state_of}
-use Rattle.state.specs.Stores.{Store, store, stores, put_longs, put_words}
-use Rattle.state.specs.declared.Entry as S
+use Rattle.state.specs.View.{flag, entry_at, open_count, entries_of, state_of}
 use Rattle.state.proofs.TableLaws.{from-same, from-join}
-use Rattle.state.proofs.StoreLaws.{stores-length, Rising, rising_read, rising_kept, kept_all, kept_set, kept_then}
-use Rattle.state.proofs.EntryLaws.{put-here, put-there, put-longs-kept, put-words-kept}
+use Rattle.state.proofs.StoreLaws.{kept_all, kept_set}
 use Rattle.book.proofs.ScanLaws.{only_step, without_nobody}
-use Rattle.book.proofs.BookLaws.{put_sized, counted, only_front}
-use Rattle.book.specs.Kept.{KeptBy, Shifted, Columns, Closing}
+use Rattle.book.proofs.BookLaws.{counted, only_front}
+use Rattle.book.specs.Kept.{KeptBy, Columns}
 use Rattle.book.specs.Questions.{FirstUnder}
 
--- ---- four numbers
+-- ---- all of an entry
 
-module _ (l : List ℕ) (a : ℕ) (h : a + 4 < length l) where
-  -- the four stores
-  abbrev four : List Store
-  four = store a (get_or l (a + 1) 0) ∷ store (a + 1) (get_or l (a + 2) 0) ∷ store (a + 2) (get_or l (a + 3) 0) ∷ store (a + 3) (get_or l (a + 4) 0) ∷ []
-
-  rises : Rising a (a + 4) four
-  rises = (omega arith, omega arith, (omega arith, omega arith, (omega arith, omega arith, (omega arith, omega arith, tt))))
-
-  four-read : (j : ℕ) → j < 4 → get_or (stores l four) (a + j) 0 ≡ get_or l (a + j + 1) 0
-  four-read zero p = let z : a + 0 ≡ a = omega arith in rw z (rising_read l a (a + 4) four (omega arith) rises).0
-  four-read (suc zero) p = let z : a + 1 + 1 ≡ a + 2 = omega arith in rw z (rising_read l a (a + 4) four (omega arith) rises).1.0
-  four-read (suc (suc zero)) p = let z : a + 2 + 1 ≡ a + 3 = omega arith in rw z (rising_read l a (a + 4) four (omega arith) rises).1.1.0
-  four-read (suc (suc (suc zero))) p = let z : a + 3 + 1 ≡ a + 4 = omega arith in rw z (rising_read l a (a + 4) four (omega arith) rises).1.1.1.0
-  four-read (suc (suc (suc (suc j)))) p = absurd (omega arith)
-
-  pub shifted : Shifted a l (set (set (set (set l a (get_or l (a + 1) 0)) (a + 1) (get_or l (a + 2) 0)) (a + 2) (get_or l (a + 3) 0)) (a + 3) (get_or l (a + 4) 0))
-  shifted = record { sized = stores-length l four; moved = four-read; kept = rising_kept l a (a + 4) four rises }
-
--- ---- all columns
-
-module _ (w : ℕ) (old : List ℕ) where
-  pub columns-none : Columns w 0 old old
-  columns-none =
-      record { sized = refl; moved = λ q j h p. absurd (omega arith); before = λ q i h p. absurd (omega arith); behind = λ q i h p r. absurd (omega arith); ahead = λ i h. refl }
-
-  pub columns-one : (n : ℕ) (new next : List ℕ) → w + 4 < 64 → Columns w n old new → Shifted (n * 64 + w) new next → Columns w (n + 1) old next
-  columns-one n new next h c s =
-      record {
-        sized = s.sized ∙ c.sized;
-        moved = λ q j p r.
-            below_more (λ q. get_or next (q * 64 + (w + j)) 0 ≡ get_or old (q * 64 + (w + j + 1)) 0) n (λ q p. s.kept.below (q * 64 + (w + j)) (omega arith) ∙ c.moved q j p r)
-            (let y : n * 64 + w + j ≡ n * 64 + (w + j) = omega arith in let z : n * 64 + (w + j) + 1 ≡ n * 64 + (w + j + 1) = omega arith in
-            (rw (y, z) at (s.moved j r)) ∙ c.ahead (n * 64 + (w + j + 1)) (omega arith)) q p;
-        before = λ q i p r.
-            below_more (λ q. get_or next (q * 64 + i) 0 ≡ get_or old (q * 64 + i) 0) n (λ q p. s.kept.below (q * 64 + i) (omega arith) ∙ c.before q i p r)
-            (s.kept.below (n * 64 + i) (omega arith) ∙ c.ahead (n * 64 + i) (omega arith)) q p;
-        behind = λ q i p r t.
-            below_more (λ q. get_or next (q * 64 + i) 0 ≡ get_or old (q * 64 + i) 0) n (λ q p. s.kept.below (q * 64 + i) (omega arith) ∙ c.behind q i p r t)
-            (s.kept.above (n * 64 + i) (omega arith) ∙ c.ahead (n * 64 + i) (omega arith)) q p;
-        ahead = λ i p. s.kept.above i (omega arith) ∙ c.ahead i (omega arith);
-      }
-
--- ---- four entries
-
-module _ (w : ℕ) (a l b m : List ℕ) (s : Shifted w a b) (c : Columns w 7 l m) where
-  entry-moved : (j : ℕ) → j < 4 → entry_at b m (w + j) ≡ entry_at a l (w + j + 1)
-  entry-moved j h =
-      let there : (q : ℕ) → q < 7 → get_or m (q * 64 + (w + j)) 0 ≡ get_or l (q * 64 + (w + j + 1)) 0 = λ q p. c.moved q j p h in
-      let y : 0 + (w + j) ≡ w + j = omega arith in
-      let z : 0 + (w + j + 1) ≡ w + j + 1 = omega arith in
-      let arrived : get_or b (0 + (w + j)) 0 ≡ get_or a (0 + (w + j + 1)) 0 = rw (y, z) (s.moved j h) in
-      λ i. record {
-        id = there 0 (omega arith) i;
-        participant = there 1 (omega arith) i;
-        buy = flag (there 4 (omega arith) i);
-        customer = flag (there 5 (omega arith) i);
-        price = there 2 (omega arith) i;
-        units = there 3 (omega arith) i;
-        arrival = arrived i;
-        stage = stage_of (there 6 (omega arith) i);
-      }
-
-  -- a place whose numbers are as they were
-  entry_kept : (k : ℕ) → get_or b k 0 ≡ get_or a k 0 → ((q : ℕ) → q < 7 → get_or m (q * 64 + k) 0 ≡ get_or l (q * 64 + k) 0) → entry_at b m k ≡ entry_at a l k
-  entry_kept k h there =
-      let z : 0 + k ≡ k = omega arith in
-      let arrived : get_or b (0 + k) 0 ≡ get_or a (0 + k) 0 = rw z h in
-      λ i. record {
-        id = there 0 (omega arith) i;
-        participant = there 1 (omega arith) i;
-        buy = flag (there 4 (omega arith) i);
-        customer = flag (there 5 (omega arith) i);
-        price = there 2 (omega arith) i;
-        units = there 3 (omega arith) i;
-        arrival = arrived i;
-        stage = stage_of (there 6 (omega arith) i);
-      }
-
-  entry-before : (k : ℕ) → k < w → entry_at b m k ≡ entry_at a l k
-  entry-before k h = entry_kept k (s.kept.below k h) (λ q p. c.before q k p h)
-
-  entry-behind : (k : ℕ) → w + 4 ≤ k → k < 64 → entry_at b m k ≡ entry_at a l k
-  entry-behind k h p = entry_kept k (s.kept.above k h) (λ q r. c.behind q k r h p)
-
--- ---- the gap goes on
-
-module _ (k : ℕ) (a l : List ℕ) where
-  pub closing-none : Sized a l → Closing k k a l a l
-  closing-none s =
-      record { sized = s; longs = kept_all L.arrivals L.next a; words = kept_all L.ids L.count l; before = λ i h. refl; moved = λ i h p. absurd (omega arith); ahead = λ i h p. refl }
-
-  module _ (w : ℕ) (b m : List ℕ) (g : Closing k w a l b m) (o : k ≤ w) where
-    pub closing-one : (e : S.Entry) → w + 1 < 64 → entry_of e ≡ entry_at b m (w + 1) → Closing k (w + 1) a l (put_longs b w e) (put_words m w e)
-    closing-one e h q =
-        record {
-          sized = put_sized b m w e g.sized;
-          longs = kept_then L.arrivals L.next L.arrivals L.next L.arrivals L.next a b (put_longs b w e) (omega arith) (omega arith) (omega arith) (omega arith) g.longs (put-longs-kept b m w e (omega arith));
-          words = kept_then L.ids L.count L.ids L.count L.ids L.count l m (put_words m w e) (omega arith) (omega arith) (omega arith) (omega arith) g.words (put-words-kept b m w e (omega arith));
-          before = λ i p. put-there b m w e (omega arith) i (omega arith) (λ (y : i ≡ w). omega arith) ∙ g.before i p;
-          moved = λ i r p.
-              below_more (λ i. k ≤ i → entry_at (put_longs b w e) (put_words m w e) i ≡ entry_at a l (i + 1)) w (λ i p r. put-there b m w e (omega arith) i (omega arith) (λ (y : i ≡ w). omega arith) ∙ g.moved i r p)
-              (λ r. put-here b m w e g.sized (omega arith) ∙ q ∙ g.ahead (w + 1) (omega arith) h) i p r;
-          ahead = λ i p r. put-there b m w e (omega arith) i r (λ (y : i ≡ w). omega arith) ∙ g.ahead i (omega arith) r;
-        }
-
-    pub closing-four : (d n : List ℕ) → w + 4 < 64 → Shifted w b d → Columns w 7 m n → Closing k (w + 4) a l d n
-    closing-four d n h s c =
-        record {
-          sized = (s.sized ∙ g.sized.0, c.sized ∙ g.sized.1);
-          longs = kept_then L.arrivals L.next L.arrivals L.next w (w + 4) a b d (omega arith) (omega arith) (omega arith) (omega arith) g.longs s.kept;
-          words = record { below = λ i p. absurd (omega arith); above = λ i p. c.ahead i (omega arith) ∙ g.words.above i p };
-          before = λ i p. entry-before w b m d n s c i (omega arith) ∙ g.before i p;
-          moved = λ i r p.
-              elim (dec_lt i w) [
-                | yes y ↦ entry-before w b m d n s c i y ∙ g.moved i r y
-                | no y ↦ let z : w + (i - w) ≡ i = omega arith in (rw z at (entry-moved w b m d n s c (i - w) (omega arith))) ∙ g.ahead (i + 1) (omega arith) (omega arith)
-              ];
-          ahead = λ i p r. entry-behind w b m d n s c i (omega arith) r ∙ g.ahead i (omega arith) r;
-        }
-
--- the gap comes to v, and from there to w
-pub closing_then : (k v w : ℕ) (a l b m d n : List ℕ) → k ≤ v → v ≤ w → w < 64 → Closing k v a l b m → Closing v w b m d n → Closing k w a l d n
-closing_then k v w a l b m d n p q z f s =
-    record {
-      sized = s.sized;
-      longs = kept_then L.arrivals L.next L.arrivals L.next L.arrivals L.next a b d (omega arith) (omega arith) (omega arith) (omega arith) f.longs s.longs;
-      words = kept_then L.ids L.count L.ids L.count L.ids L.count l m n (omega arith) (omega arith) (omega arith) (omega arith) f.words s.words;
-      before = λ i h. s.before i (omega arith) ∙ f.before i h;
-      moved = λ i h r.
-          elim (dec_lt i v) [
-            | yes y ↦ s.before i y ∙ f.moved i h y
-            | no y ↦ s.moved i (omega arith) r ∙ f.ahead (i + 1) (omega arith) (omega arith)
-          ];
-      ahead = λ i h r. s.ahead i h r ∙ f.ahead i (omega arith) r;
+-- place i of the longs b and the words m has what place j of a and l has
+entry_same : (a l b m : List ℕ) (i j : ℕ) → get_or b i 0 ≡ get_or a j 0 → ((q : ℕ) → q < 7 → get_or m (q * 64 + i) 0 ≡ get_or l (q * 64 + j) 0) → entry_at b m i ≡ entry_at a l j
+entry_same a l b m i j h there =
+    let y : 0 + i ≡ i = omega arith in
+    let z : 0 + j ≡ j = omega arith in
+    let arrived : get_or b (0 + i) 0 ≡ get_or a (0 + j) 0 = rw (y, z) h in
+    λ t. record {
+      id = there 0 (omega arith) t;
+      participant = there 1 (omega arith) t;
+      buy = flag (there 4 (omega arith) t);
+      customer = flag (there 5 (omega arith) t);
+      price = there 2 (omega arith) t;
+      units = there 3 (omega arith) t;
+      arrival = arrived t;
+      stage = stage_of (there 6 (omega arith) t);
     }
 
 -- ---- what is left of a table without one
@@ -201,12 +79,17 @@ pub all_stay : (flag : ℕ → Bool) (a l : List ℕ) → ((i : ℕ) → i < ope
 all_stay flag a l h =
     record { longs = kept_all L.arrivals L.next a; words = kept_all L.ids L.bids l; entries = λ p f. sym (only-all (entry_at a l) p 0 (open_count l) (λ i q r. sym (f i r) ∙ h i r)) }
 
-pub closing_end : (k w : ℕ) (a l b m : List ℕ) → Closing k w a l b m → k ≤ w → w + 1 ≡ open_count l → KeptBy (λ i. not (eqb i k)) a l b (set m L.count w)
-closing_end k w a l b m g o c =
+-- those behind place k moved by one place, and one less
+pub gap-closed : (k n w x y d : ℕ) (a l b m : List ℕ) → Sized a l → n ≡ open_count l → k < n → w + 1 ≡ n → x ≡ k + 1 → y ≡ k → k + d + 1 ≡ n → CopiedTo a b x y d → SameBelow a b y → SameFrom a b (y + d) → Columns k n 7 l m
+    → KeptBy (λ i. not (eqb i k)) a l b (set m L.count w)
+gap-closed k n w x y d a l b m s z h v e o u copied low high c =
+    let before : (i : ℕ) → i < k → entry_at b m i ≡ entry_at a l i = λ i p. entry_same a l b m i i (low i 0 (omega arith)) (λ q r. c.before q i r p) in
+    let moved : (i : ℕ) → k ≤ i → i < w → entry_at b m i ≡ entry_at a l (i + 1) = λ i p q.
+    entry_same a l b m i (i + 1) (let g : x + (i - y) ≡ i + 1 = omega arith in rw g at (copied i 0 (omega arith) (omega arith))) (λ t r. c.moved t i r p (omega arith)) in
     record {
-      longs = g.longs;
-      words = kept_set L.ids L.bids l m L.count w (omega arith) (omega arith) (kept_then L.ids L.bids L.ids L.count L.ids L.count l m m (omega arith) (omega arith) (omega arith) (omega arith) g.words (kept_all L.ids L.count m));
-      entries = λ p f. counted b m w g.sized.1 (omega arith) ∙ without-one (entry_at a l) p (entry_at b m) k w o g.before g.moved (λ i h. f i (omega arith)) ∙ ap (λ (n : ℕ). only p (from (entry_at a l) 0 n)) c;
+      longs = record { below = λ i p. absurd (omega arith); above = λ i p. high i 0 (omega arith) };
+      words = kept_set L.ids L.bids l m L.count w (omega arith) (omega arith) (record { below = λ i p. absurd (omega arith); above = λ i p. c.ahead i (omega arith) });
+      entries = λ p f. counted b m w (omega (arith, c.sized)) (omega arith) ∙ without-one (entry_at a l) p (entry_at b m) k w (omega arith) before moved (λ i q. f i (omega arith)) ∙ ap (λ (t : ℕ). only p (from (entry_at a l) 0 t)) (v ∙ z);
     }
 
 -- ---- the only one under an id

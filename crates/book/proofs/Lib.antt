@@ -1,6 +1,7 @@
 pub mod StageLaws
 pub mod StoreLaws
 pub mod ScanLaws
+pub mod FindLaws
 mod PlaceLaws
 mod PassLaws
 mod BookLaws

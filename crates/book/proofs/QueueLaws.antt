@@ -5,12 +5,14 @@ use mathlib.Core.List.{List, [], ◌∷◌}
 use Prim.Native.Nat.{ℕ}
 use native.Mathlib.Omega.{arith}
 use borrow.Author.Tests.{ltb-true, ltb-false, lt-ltb, not-false}
+use Rattle.std.specs.Prelude.{Option, Some, None}
+use Rattle.std.specs.Option.{is_some}
 use Rattle.rules.specs.Basics.{pick}
 use Rattle.rules.specs.Book.{Entry, only, any, by_price, better, same_side, is_queued}
 use Rattle.rules.specs.Auction.{queue, first_in, beats_found}
-use Rattle.book.specs.Questions.{is_across, is_unbeaten, front_of}
+use Rattle.book.specs.Questions.{is_across, is_unbeaten, front_of, front_with}
 use Rattle.book.specs.declared.Front.{Front}
-use Rattle.book.proofs.ScanLaws.{neither, front_with, front_put, front_beats}
+use Rattle.book.proofs.ScanLaws.{neither, front_put, front_better, front_beats}
 
 -- ---- better
 
@@ -40,37 +42,24 @@ comes false u x h k = refl
 
 module _ (buy : Bool) (p : ℕ) where
   -- what is known of the first of a queue on that side, and of whether the price is not better than some limit
-  record Agrees (a : Front) (u : Bool) : Type 0 where
-    side : a.there ≡ true → a.buy ≡ buy
-    beaten : a.there ≡ true → not u ≡ better buy p a.price
-    none : a.there ≡ false → u ≡ false
+  Agrees : Option Front → Bool → Type 0
+  Agrees None u = u ≡ false
+  Agrees (Some a) u = (a.buy ≡ buy) × (not u ≡ better buy p a.price)
 
-  with-one : (a : Front) (u : Bool) (e : Entry) → Agrees a u → e.buy ≡ buy → Agrees (front_with e a) (not (better buy p e.price) || u)
-  with-one a u e g s = by a.there refl
+  with-one : (a : Option Front) (u : Bool) (e : Entry) → Agrees a u → e.buy ≡ buy → Agrees (Some (front_with e.buy e.price a)) (not (better buy p e.price) || u)
+  unfolding Agrees
+  with-one None u e g s = (s, comes (better buy p e.price) u true (ap not g) (λ z. refl))
+  with-one (Some a) u e g s = let z : better a.buy a.price e.price ≡ better buy a.price e.price = rw g.0 in rw z (ahead (better buy a.price e.price) refl)
     where
-      new : (x : Bool) → not u ≡ x → (better buy p e.price ≡ true → x ≡ true) → Agrees (record { there = true; buy = e.buy; price = e.price }) (not (better buy p e.price) || u)
-      new x h k = record { side = λ z. s; beaten = λ z. comes (better buy p e.price) u x h k; none = λ z. let y : ◌≡◌ {A = ℕ} 0 1 = cc in absurd (omega arith) }
-
-      ahead : (d : Bool) → a.there ≡ true → better buy a.price e.price ≡ d → Agrees (pick d a (record { there = true; buy = e.buy; price = e.price })) (not (better buy p e.price) || u)
-      ahead true q h =
-          record {
-            side = g.side;
-            beaten = λ z. stays (better buy p e.price) u _ (g.beaten z) (better_both buy p a.price e.price h);
-            none = λ z. let y : ◌≡◌ {A = ℕ} 0 1 = cc in absurd (omega arith);
-          }
-      ahead false q h = new _ (g.beaten q) (better-back buy p a.price e.price h)
-
-      by : (t : Bool) → a.there ≡ t → Agrees (front_with e a) (not (better buy p e.price) || u)
-      by false q = rw q (new true (ap not (g.none q)) (λ z. refl))
-      by true q =
-          let z : (a.there && better a.buy a.price e.price) ≡ better buy a.price e.price = rw (q, g.side q) in
-          rw z (ahead (better buy a.price e.price) q refl)
+      ahead : (d : Bool) → better buy a.price e.price ≡ d → Agrees (Some (pick d a (record { buy = e.buy; price = e.price }))) (not (better buy p e.price) || u)
+      ahead true h = (g.0, stays (better buy p e.price) u _ g.1 (better_both buy p a.price e.price h))
+      ahead false h = (s, comes (better buy p e.price) u _ g.1 (better-back buy p a.price e.price h))
 
   -- the first of the queue
-  abbrev front_in : List Entry → Front
+  abbrev front_in : List Entry → Option Front
   front_in es = front_of (first_in (queue es))
 
-  front-one : (e : Entry) (es : List Entry) → is_queued e.stage ≡ true → front_in (e ∷ es) ≡ front_with e (front_in es)
+  front-one : (e : Entry) (es : List Entry) → is_queued e.stage ≡ true → front_in (e ∷ es) ≡ Some (front_with e.buy e.price (front_in es))
   unfolding only by_price
   front-one e es h = rw h (sym (front_put e (queue es)))
 
@@ -79,36 +68,28 @@ module _ (buy : Bool) (p : ℕ) where
   front-other e es h = rw h
 
   agrees : (es : List Entry) → any (is_across buy) es ≡ false → Agrees (front_in es) (any (is_unbeaten buy p) es)
-  unfolding only by_price
-  agrees [] h = record { side = λ z. let y : ◌≡◌ {A = ℕ} 0 1 = cc in absurd (omega arith); beaten = λ z. let y : ◌≡◌ {A = ℕ} 0 1 = cc in absurd (omega arith); none = λ z. refl }
+  unfolding only by_price Agrees
+  agrees [] h = refl
   agrees (e ∷ es) h = let n = neither (is_across buy e) (any (is_across buy) es) h in by (is_queued e.stage) refl n.0 (agrees es n.1)
     where
       by : (q : Bool) → is_queued e.stage ≡ q → is_across buy e ≡ false → Agrees (front_in es) (any (is_unbeaten buy p) es) → Agrees (front_in (e ∷ es)) (any (is_unbeaten buy p) (e ∷ es))
       by true q n g = rw (front-one e es q, q) (with-one (front_in es) (any (is_unbeaten buy p) es) e g (same_is buy e.buy (not-false _ (rw q at n))))
       by false q n g = rw (front-other e es q, q) g
 
-  -- with one more there is a first
-  some : (e : Entry) (a : Front) → (front_with e a).there ≡ true
-  some e a = by a.there (better a.buy a.price e.price) refl
-    where
-      by : (t d : Bool) → a.there ≡ t → (pick (t && d) a (record { there = true; buy = e.buy; price = e.price })).there ≡ true
-      by true true q = q
-      by true false q = refl
-      by false d q = refl
-
-  there : (es : List Entry) → (front_in es).there ≡ any (λ e. is_queued e.stage) es
+  there : (es : List Entry) → is_some (front_in es) ≡ any (λ e. is_queued e.stage) es
   unfolding only by_price
   there [] = refl
   there (e ∷ es) = by (is_queued e.stage) refl (there es)
     where
-      by : (q : Bool) → is_queued e.stage ≡ q → (front_in es).there ≡ any (λ e. is_queued e.stage) es → (front_in (e ∷ es)).there ≡ (q || any (λ e. is_queued e.stage) es)
-      by true q h = ap (λ (a : Front). a.there) (front-one e es q) ∙ some e (front_in es)
-      by false q h = ap (λ (a : Front). a.there) (front-other e es q) ∙ h
+      by : (q : Bool) → is_queued e.stage ≡ q → is_some (front_in es) ≡ any (λ e. is_queued e.stage) es → is_some (front_in (e ∷ es)) ≡ (q || any (λ e. is_queued e.stage) es)
+      by true q h = ap is_some (front-one e es q)
+      by false q h = ap is_some (front-other e es q) ∙ h
 
   -- better than the first's limit, and so than all
   pub beats-all : (es : List Entry) → any (is_across buy) es ≡ false → (any (λ e. is_queued e.stage) es && not (any (is_unbeaten buy p) es)) ≡ beats_found buy p (first_in (queue es))
-  beats-all es h = rw (← there es) (by (front_in es).there refl (agrees es h)) ∙ front_beats buy p (first_in (queue es))
+  unfolding Agrees
+  beats-all es h = rw (← there es) (by (front_in es) (any (is_unbeaten buy p) es) (agrees es h)) ∙ front_beats buy p (first_in (queue es))
     where
-      by : (t : Bool) → (front_in es).there ≡ t → Agrees (front_in es) (any (is_unbeaten buy p) es) → (t && not (any (is_unbeaten buy p) es)) ≡ (t && better buy p (front_in es).price)
-      by true q g = g.beaten q
-      by false q g = refl
+      by : (a : Option Front) (u : Bool) → Agrees a u → (is_some a && not u) ≡ front_better buy p a
+      by None u g = refl
+      by (Some a) u g = g.1

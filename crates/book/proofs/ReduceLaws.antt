@@ -1,14 +1,15 @@
 -- The entry under an id has other units: in the table of the entries, and in the state.
-use mathlib.Core.Path.{◌≡◌, refl, ap}
-use mathlib.Core.Bool.{true, false}
-use mathlib.Core.List.{List}
+use mathlib.Core.Path.{◌≡◌, refl, ap, sym}
+use mathlib.Core.Bool.{Bool, true, false}
+use mathlib.Core.List.{List, [], ◌∷◌}
 use Prim.Native.Nat.{ℕ, zero, suc, ◌+◌, ◌-◌, ◌≤◌, ◌<◌}
 use native.Mathlib.Decide.{ℕ_discrete}
 use native.Mathlib.Omega.{arith}
 use lib.Dec.{eqb}
 use lib.ListN.{get_or, set}
 use lib.Seq.{get_or-set_same, get_or-set_other}
-use Rattle.rules.specs.Book.{Entry, with_units, reduced}
+use Rattle.rules.specs.Basics.{pick}
+use Rattle.rules.specs.Book.{Entry, nobody, found, find, with_units, reduced}
 use Rattle.rules.specs.State.{with_book}
 use Rattle.types.specs.View.{upto, stage_of}
 use Rattle.state.specs.Layout as L
@@ -49,8 +50,15 @@ module _ (longs words : List ℕ) (id u k : ℕ) (first : FirstUnder id words k)
       (λ q. (first.here h, entry k u (omega arith) (get_or-set_same words (L.units + k) u 0 (omega arith))))
       (λ i q x. entry i (get_or words (L.units + i) 0) (omega arith) (other (L.units + i) (λ (y : L.units + i ≡ L.units + k). x (omega arith))))))
 
-  -- there is none
-  pub none-reduced : open_count words ≤ k → state_of longs words ≡ with_book (state_of longs words) (reduced id u (entries_of longs words))
-  none-reduced h =
-      let f = entry_at longs words in
-      ap (with_book (state_of longs words)) (upto-reduced f f id u k first.before 0 (open_count words - 0) (omega arith) (λ q. absurd (omega arith)) (λ i q x. refl))
+-- nobody is under the id, so that no entry changes
+reduced_nobody : (i u : ℕ) (es : List Entry) → find i es ≡ nobody → reduced i u es ≡ es
+unfolding find
+reduced_nobody i u [] h = refl
+reduced_nobody i u (e ∷ es) h = by (eqb e.id i) h (reduced_nobody i u es)
+  where
+    by : (b : Bool) → pick b (found e) (find i es) ≡ nobody → (find i es ≡ nobody → reduced i u es ≡ es) → pick b (with_units u e ∷ es) (e ∷ reduced i u es) ≡ e ∷ es
+    by true q r = cc
+    by false q r = ap (λ (t : List Entry). e ∷ t) (r q)
+
+pub none-reduced : (longs words : List ℕ) (id u : ℕ) → find id (entries_of longs words) ≡ nobody → state_of longs words ≡ with_book (state_of longs words) (reduced id u (entries_of longs words))
+none-reduced longs words id u h = ap (with_book (state_of longs words)) (sym (reduced_nobody id u (entries_of longs words) h))

@@ -1,18 +1,19 @@
 -- One entry more, or none left, of what a scan asks of a table.
 use mathlib.Core.Path.{◌≡◌, refl, ap, sym, ◌∙◌}
-use mathlib.Core.Bool.{Bool, true, false, ◌&&◌, ◌||◌, not, or_assoc, or-false}
+use mathlib.Core.Bool.{Bool, true, false, ◌||◌, not, or_assoc, or-false}
 use mathlib.Core.List.{List, [], ◌∷◌}
 use Prim.Native.Nat.{ℕ, ◌+◌, ◌≤◌, ◌<◌}
 use native.Mathlib.Omega.{arith}
 use lib.Dec.{eqb}
 use lib.ListN.{length}
+use Rattle.std.specs.Prelude.{Option, Some, None}
 use Rattle.rules.specs.Basics.{pick}
 use Rattle.rules.specs.Book.{Entry, Found, nobody, found, find, any, count, units_if, only, without, put_by_price, by_price, better, is_queued, is_response}
 use Rattle.rules.specs.Refusals.{is_order}
 use Rattle.rules.specs.Auction.{queue, first_in, beats_found}
 use Rattle.types.specs.View.{from}
 use Rattle.types.proofs.TableLaws.{from_cons, from_end}
-use Rattle.book.specs.Questions.{front_of}
+use Rattle.book.specs.Questions.{front_of, front_with}
 use Rattle.book.specs.declared.Front.{Front}
 
 module _ (f : ℕ → Entry) (k n : ℕ) where
@@ -96,20 +97,17 @@ orders_left (e ∷ es) = by (is_response e.stage) (orders_left es)
 -- ---- the first of the queue
 
 -- the front with an entry put before all others
-abbrev pub front_with : Entry → Front → Front
-front_with e a = pick (a.there && better a.buy a.price e.price) a (record { there = true; buy = e.buy; price = e.price })
-
-pub front_put : (e : Entry) (l : List Entry) → front_with e (front_of (first_in l)) ≡ front_of (first_in (put_by_price e l))
+pub front_put : (e : Entry) (l : List Entry) → Some (front_with e.buy e.price (front_of (first_in l))) ≡ front_of (first_in (put_by_price e l))
 unfolding put_by_price
 front_put e [] = refl
 front_put e (h ∷ t) = by (better h.buy h.price e.price)
   where
-    by : (b : Bool) → pick b (front_of (found h)) (record { there = true; buy = e.buy; price = e.price }) ≡ front_of (first_in (pick b (h ∷ put_by_price e t) (e ∷ h ∷ t)))
+    by : (b : Bool) → Some (pick b (record { buy = h.buy; price = h.price }) (record { buy = e.buy; price = e.price })) ≡ front_of (first_in (pick b (h ∷ put_by_price e t) (e ∷ h ∷ t)))
     by true = refl
     by false = refl
 
 module _ (f : ℕ → Entry) (k n : ℕ) (h : k < n) where
-  pub front-hit : is_queued (f k).stage ≡ true → front_with (f k) (front_of (first_in (queue (from f (k + 1) n)))) ≡ front_of (first_in (queue (from f k n)))
+  pub front-hit : is_queued (f k).stage ≡ true → Some (front_with (f k).buy (f k).price (front_of (first_in (queue (from f (k + 1) n))))) ≡ front_of (first_in (queue (from f k n)))
   unfolding only by_price
   front-hit e = rw (from_cons f k n h, e) (front_put (f k) (queue (from f (k + 1) n)))
 
@@ -117,6 +115,11 @@ module _ (f : ℕ → Entry) (k n : ℕ) (h : k < n) where
   unfolding only
   front-miss e = rw (from_cons f k n h, e)
 
-pub front_beats : (buy : Bool) (p : ℕ) (x : Found) → ((front_of x).there && better buy p (front_of x).price) ≡ beats_found buy p x
+-- the first is worse than that price
+abbrev pub front_better : Bool → ℕ → Option Front → Bool
+front_better buy p None = false
+front_better buy p (Some a) = better buy p a.price
+
+pub front_beats : (buy : Bool) (p : ℕ) (x : Found) → front_better buy p (front_of x) ≡ beats_found buy p x
 front_beats buy p nobody = refl
 front_beats buy p (found e) = refl

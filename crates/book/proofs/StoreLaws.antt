@@ -1,14 +1,20 @@
 -- A table in two parts, and a table after a store.
-use mathlib.Core.Path.{◌≡◌, ap, sym, ◌∙◌}
+use mathlib.Core.Path.{◌≡◌, refl, ap, sym, ◌∙◌}
 use mathlib.Core.Bool.{Bool, true, false}
 use mathlib.Core.List.{List, ◌∷◌, ◌++◌}
 use Prim.Native.Nat.{ℕ, zero, suc, ◌+◌, ◌-◌, ◌≤◌, ◌<◌}
 use native.Mathlib.Omega.{arith}
+use mir.Val.{bool_byte}
 use lib.Seq.{append_snoc}
 use Rattle.rules.specs.Basics.{pick}
 use Rattle.types.specs.View.{upto, from}
 use Rattle.types.proofs.TableLaws.{from_cons, from_end}
 use Rattle.state.proofs.TableLaws.{from-same}
+
+-- a flag that is counted
+pub counted-flag : (b : Bool) → (bool_byte b ≡ pick b 1 0) × (bool_byte b ≤ 1)
+counted-flag true = (refl, omega arith)
+counted-flag false = (refl, omega arith)
 
 module _ {A : Type 0} where
   upto-join : (f : ℕ → A) (k a b : ℕ) → upto f k a ++ upto f (k + a) b ≡ upto f k (a + b)

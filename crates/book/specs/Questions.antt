@@ -1,12 +1,13 @@
 -- What is asked of the open entries, where the rules have no name for it.
-use Rattle.std.specs.Prelude.{◌≡◌, Bool, true, false, ◌&&◌, not, List, ℕ, ◌+◌, ◌≤◌, ◌<◌, eqb, length, take, get_or}
+use Rattle.std.specs.Prelude.{◌≡◌, Option, Some, None, Bool, true, false, ◌&&◌, not, List, ℕ, ◌+◌, ◌≤◌, ◌<◌, eqb, length, take, get_or}
 use Rattle.rules.specs.Basics.{pick}
 use Rattle.rules.specs.Filter.{beyond}
 use Rattle.rules.specs.Book.{Stage, Entry, Found, nobody, found, any, same_side, better, is_live, is_queued}
 use Rattle.rules.specs.State.{State}
 use Rattle.types.specs.View.{from, stage_of}
 use Rattle.state.specs.Layout as L
-use Rattle.state.specs.View.{open_count}
+use Rattle.state.specs.View.{entry_of, open_count}
+use Rattle.state.specs.declared.Entry as S
 use Rattle.state.specs.Lent.{Lent, LentMut, Tells}
 use Rattle.book.specs.declared.Front.{Front}
 
@@ -31,9 +32,14 @@ is_unbeaten buy price e = is_queued e.stage && not (better buy price e.price)
 -- ---- some entries
 
 -- what is kept of the first of a queue
-abbrev pub front_of : Found → Front
-front_of nobody = record { there = false; buy = false; price = 0 }
-front_of (found e) = record { there = true; buy = e.buy; price = e.price }
+abbrev pub front_of : Found → Option Front
+front_of nobody = None
+front_of (found e) = Some (record { buy = e.buy; price = e.price })
+
+-- the first, with an order of that side and limit more before all others
+abbrev pub front_with : Bool → ℕ → Option Front → Front
+front_with buy price None = record { buy = buy; price = price }
+front_with buy price (Some a) = pick (better a.buy a.price price) a (record { buy = buy; price = price })
 
 -- whether an entry is at the stage of that number, by any test that tells that stage
 abbrev pub AnyAt : Lent → ℕ → Bool → Type 0
@@ -43,6 +49,16 @@ AnyAt words n r = (p : Stage → Bool) → ((i : ℕ) → eqb i n ≡ p (stage_o
 pub record FirstUnder (id : ℕ) (words : List ℕ) (k : ℕ) : Type 0 where
   pub before : (i : ℕ) → i < k → eqb (get_or words (L.ids + i) 0) id ≡ false
   pub here : k < open_count words → eqb (get_or words (L.ids + k) 0) id ≡ true
+
+-- the entry at a place of the book, if there is one
+abbrev pub found_at : (ℕ → Entry) → Option ℕ → Found
+found_at f None = nobody
+found_at f (Some k) = found (f k)
+
+-- the same, by value
+abbrev pub found_of : Option S.Entry → Found
+found_of None = nobody
+found_of (Some e) = found (entry_of e)
 
 -- each is a place of the book
 abbrev pub Inside : List ℕ → Type 0

@@ -1,24 +1,23 @@
 // The open orders and responses: what is asked of them. Each question is a scan of the book's columns in the lent words.
 #![tactic(auto)]
 
-ghost use Rattle.std.specs.Prelude.{◌≡◌, true, ◌&&◌, ◌||◌, not, List, ℕ, ◌<◌, ◌≤◌, eqb, ltb};
+ghost use Rattle.std.specs.Prelude.{◌≡◌, true, ◌&&◌, ◌||◌, not, List, ℕ, ◌<◌, ◌≤◌, eqb, take, position};
 ghost use Rattle.rules.specs.Basics.{pick};
 ghost use Rattle.rules.specs.Filter.{beyond};
 ghost use Rattle.rules.specs.Book.{Entry as Open, nobody, found, find, units_of, any, count, units_if, same_side, better, is_held, is_live, is_queued, is_response};
 ghost use Rattle.rules.specs.Refusals.{is_order, is_open, of_participant};
 ghost use Rattle.rules.specs.Auction.{in_front, initiator, beats_found};
 ghost use Rattle.types.specs.View.{stage_of};
-ghost use Rattle.state.specs.Layout.{WordsSized, Sized};
 ghost use Rattle.state.specs.View.{flag, entry_of, entry_at, open_count, entries_of};
 ghost use Rattle.state.specs.Lent.{Tells};
-ghost use Rattle.book.specs.Questions.{is_near_live, is_across, is_unbeaten, front_of, FirstUnder};
+ghost use Rattle.book.specs.Questions.{is_near_live, is_across, is_unbeaten, front_of, front_with, found_at};
 
-use state::{Book, Entry, Stage};
+use state::{Book, Entry, Longs, Stage, Words};
 
 mod changes;
 mod ids;
 
-pub use changes::{Sought, append, close, reduce, remove, settle, take_out};
+pub use changes::{append, close, reduce, remove, settle, take_out};
 pub use ids::{any_held, any_queued, held_ids, live_ids, queue_ids};
 
 // ---- one entry
@@ -65,59 +64,40 @@ fn is_better(buy: bool, p: u64, q: u64) -> bool
     if buy { q < p } else { p < q }
 }
 
-// 1 where a test holds.
-pub fn one_if(b: bool) -> usize
-    ensures { (result ≡ pick b 1 0) × (result ≤ 1) }
-{
-    if b { 1 } else { 0 }
-}
-
 // ---- under an id
 
 // "id open as order or response".
-pub fn is_open(words: &[u32], id: u32) -> bool
-    requires { WordsSized words.now }
+pub fn is_open(words: &Words, id: u32) -> bool
     ensures { Tells words (λ s. result ≡ is_open id s) }
 {
     let m = state::open_count(words);
-    let mut seen = false;
-    let mut k = 0;
-    while k < m {
-        seen = seen | (words[Book::IDS + k] == id);
-        k += 1;
-    }
-    seen
+    words[Book::IDS..Book::IDS + m].contains(&id)
 }
 
-// The place of the entry under an id; the number of entries where there is none.
-pub fn find(words: &[u32], id: u32) -> usize
-    requires { WordsSized words.now }
-    ensures { (result ≤ open_count words.now) × ((longs : List ℕ) → find id (entries_of longs words.now) ≡ pick (ltb result (open_count words.now)) (found (entry_at longs words.now result)) nobody) × FirstUnder id words.now result }
+// The place of the entry under an id.
+pub fn find(words: &Words, id: u32) -> Option<usize>
+    ensures place { result ≡ position (λ x. eqb x id) (take (open_count words.now) words.now) }
+    ensures entry { (longs : List ℕ) → find id (entries_of longs words.now) ≡ found_at (entry_at longs words.now) result }
 {
     let m = state::open_count(words);
-    let mut k = 0;
-    while k < m {
-        if words[Book::IDS + k] == id {
-            return k;
-        }
-        k += 1;
-    }
-    k
+    words[Book::IDS..Book::IDS + m]
+        .iter()
+        .position(|x| *x == id)
 }
 
 // The open units under an id, 0 where there is none.
-pub fn units_of(words: &[u32], id: u32) -> u32
-    requires { WordsSized words.now }
+pub fn units_of(words: &Words, id: u32) -> u32
     ensures { Tells words (λ s. result ≡ units_of (find id s.book)) }
 {
-    let m = state::open_count(words);
-    let k = find(words, id);
-    if k < m { words[Book::UNITS + k] } else { 0 }
+    match find(words, id) {
+        Some(k) => words[Book::UNITS + k],
+        None => 0,
+    }
 }
 
 // The entry at a place of the book.
-fn entry_at(longs: &[u64], words: &[u32], k: usize) -> Entry
-    requires { Sized longs.now words.now × (k < 64) }
+fn entry_at(longs: &Longs, words: &Words, k: usize) -> Entry
+    requires { k < 64 }
     ensures { entry_of result ≡ entry_at longs.now words.now k }
 {
     Entry {
@@ -158,8 +138,7 @@ fn noted(s: Standing, stage: u32, own: bool) -> Standing
 }
 
 // "no open order of that id and participant", "no response of that id and participant".
-pub fn standing_of(words: &[u32], id: u32, participant: u32) -> Standing
-    requires { WordsSized words.now }
+pub fn standing_of(words: &Words, id: u32, participant: u32) -> Standing
     ensures { Tells words (λ s. (result.order ≡ any (λ e. is_order e && of_participant id participant e) s.book) × (result.response ≡ any (λ e. is_response e.stage && of_participant id participant e) s.book)) }
 {
     let m = state::open_count(words);
@@ -167,8 +146,7 @@ pub fn standing_of(words: &[u32], id: u32, participant: u32) -> Standing
         order: false,
         response: false,
     };
-    let mut k = 0;
-    while k < m {
+    for k in 0..m {
         let own = is_of(
             words[Book::IDS + k],
             words[Book::PARTICIPANTS + k],
@@ -176,7 +154,6 @@ pub fn standing_of(words: &[u32], id: u32, participant: u32) -> Standing
             participant,
         );
         s = noted(s, words[Book::STAGES + k], own);
-        k += 1;
     }
     s
 }
@@ -192,16 +169,13 @@ pub struct Counts {
 }
 
 // "32 orders open", "43 new: 32 open".
-pub fn open_counts(words: &[u32]) -> Counts
-    requires { WordsSized words.now }
+pub fn open_counts(words: &Words) -> Counts
     ensures { Tells words (λ s. (result.orders ≡ count is_order s.book) × (result.responses ≡ count (λ e. is_response e.stage) s.book)) }
 {
     let m = state::open_count(words);
     let mut responses = 0;
-    let mut k = 0;
-    while k < m {
-        responses += one_if(is_response(words[Book::STAGES + k]));
-        k += 1;
+    for k in 0..m {
+        responses += usize::from(is_response(words[Book::STAGES + k]));
     }
     Counts {
         orders: m - responses,
@@ -217,16 +191,13 @@ fn units_queued(stage: u32, units: u32) -> u64
 }
 
 // "Joined (units in the queue)".
-pub fn queue_units(words: &[u32]) -> u64
-    requires { WordsSized words.now }
+pub fn queue_units(words: &Words) -> u64
     ensures { Tells words (λ s. result ≡ units_if (λ e. is_queued e.stage) s.book) }
 {
     let m = state::open_count(words);
     let mut sum: u64 = 0;
-    let mut k = 0;
-    while k < m {
+    for k in 0..m {
         sum += units_queued(words[Book::STAGES + k], words[Book::UNITS + k]);
-        k += 1;
     }
     sum
 }
@@ -243,14 +214,12 @@ fn is_standing(stage: u32, side: u32, limit: u32, buy: bool, price: u32) -> bool
 }
 
 // "its limit is strictly better than every other open same-side order outside the queue".
-pub fn in_front(words: &[u32], buy: bool, price: u32) -> bool
-    requires { WordsSized words.now }
+pub fn in_front(words: &Words, buy: bool, price: u32) -> bool
     ensures { Tells words (λ s. (o : Open) → o.buy ≡ buy → o.price ≡ price → result ≡ in_front s o) }
 {
     let m = state::open_count(words);
     let mut seen = false;
-    let mut k = 0;
-    while k < m {
+    for k in 0..m {
         seen = seen
             | is_standing(
                 words[Book::STAGES + k],
@@ -259,7 +228,6 @@ pub fn in_front(words: &[u32], buy: bool, price: u32) -> bool
                 buy,
                 price,
             );
-        k += 1;
     }
     !seen
 }
@@ -273,14 +241,12 @@ fn is_near_live(stage: u32, side: u32, p: u32, buy: bool, price: u32, distance: 
 }
 
 // "a best contra price (.. live order) exists that the limit reaches or misses by at most the class distance".
-pub fn near_live(words: &[u32], buy: bool, price: u32, distance: u32) -> bool
-    requires { WordsSized words.now }
+pub fn near_live(words: &Words, buy: bool, price: u32, distance: u32) -> bool
     ensures { Tells words (λ s. result ≡ any (is_near_live buy price distance) s.book) }
 {
     let m = state::open_count(words);
     let mut seen = false;
-    let mut k = 0;
-    while k < m {
+    for k in 0..m {
         seen = seen
             | is_near_live(
                 words[Book::STAGES + k],
@@ -290,7 +256,6 @@ pub fn near_live(words: &[u32], buy: bool, price: u32, distance: u32) -> bool
                 price,
                 distance,
             );
-        k += 1;
     }
     seen
 }
@@ -300,47 +265,37 @@ pub fn near_live(words: &[u32], buy: bool, price: u32, distance: u32) -> bool
 // The greatest number of a word.
 const MOST_WORD: u64 = 4_294_967_295;
 
-// The first of a queue: whether there is one, its side and its limit.
+// The first of a queue: its side and its limit.
 #[derive(Clone, Copy)]
 struct Front {
-    there: bool,
     buy: bool,
     price: u32,
 }
 
 // The first, with an entry more before all others: it is ahead unless the first is strictly better.
-fn put_front(a: Front, side: u32, price: u32) -> Front
-    ensures { result ≡ pick (a.there && better a.buy a.price price) a (record { there = true; buy = flag side; price = price }) }
+fn put_front(first: Option<Front>, side: u32, price: u32) -> Front
+    ensures { result ≡ front_with (flag side) price first }
 {
-    let buy = state::is_set(side);
-    if a.there & is_better(a.buy, a.price as u64, price as u64) {
-        return a;
-    }
-    Front {
-        there: true,
-        buy,
-        price,
+    match first {
+        Some(a) if is_better(a.buy, u64::from(a.price), u64::from(price)) => a,
+        _ => Front {
+            buy: state::is_set(side),
+            price,
+        },
     }
 }
 
 // The first of the queue, "by price, then arrival".
-fn first_queued(words: &[u32]) -> Front
-    requires { WordsSized words.now }
+fn first_queued(words: &Words) -> Option<Front>
     ensures { Tells words (λ s. result ≡ front_of (initiator s)) }
 {
-    let mut a = Front {
-        there: false,
-        buy: false,
-        price: 0,
-    };
-    let mut k = state::open_count(words);
-    while 0 < k {
-        k -= 1;
+    let mut first = None;
+    for k in (0..state::open_count(words)).rev() {
         if is_queued(words[Book::STAGES + k]) {
-            a = put_front(a, words[Book::BUYS + k], words[Book::PRICES + k]);
+            first = Some(put_front(first, words[Book::BUYS + k], words[Book::PRICES + k]));
         }
     }
-    a
+    first
 }
 
 // What the queue is to a price of one side: whether there is an order, whether one is on the other side, and whether the price is not strictly better than one's limit.
@@ -363,8 +318,7 @@ fn put_against(a: Against, stage: u32, side: u32, limit: u32, buy: bool, price: 
     }
 }
 
-fn queue_against(words: &[u32], buy: bool, price: u32) -> Against
-    requires { WordsSized words.now }
+fn queue_against(words: &Words, buy: bool, price: u32) -> Against
     ensures { Tells words (λ s. (result.there ≡ any (λ e. is_queued e.stage) s.book) × (result.other ≡ any (is_across buy) s.book) × (result.unbeaten ≡ any (is_unbeaten buy price) s.book)) }
 {
     let m = state::open_count(words);
@@ -373,8 +327,7 @@ fn queue_against(words: &[u32], buy: bool, price: u32) -> Against
         other: false,
         unbeaten: false,
     };
-    let mut k = 0;
-    while k < m {
+    for k in 0..m {
         a = put_against(
             a,
             words[Book::STAGES + k],
@@ -383,14 +336,12 @@ fn queue_against(words: &[u32], buy: bool, price: u32) -> Against
             buy,
             price,
         );
-        k += 1;
     }
     a
 }
 
 // "Same side, better than the initiator's limit". Where all of the queue is on that side, as in every state that is reached, it is better than every limit there.
-pub fn beats(words: &[u32], buy: bool, price: u64) -> bool
-    requires { WordsSized words.now }
+pub fn beats(words: &Words, buy: bool, price: u64) -> bool
     ensures { Tells words (λ s. result ≡ beats_found buy price (initiator s)) }
 {
     if price <= MOST_WORD {
@@ -399,6 +350,8 @@ pub fn beats(words: &[u32], buy: bool, price: u64) -> bool
             return a.there & !a.unbeaten;
         }
     }
-    let f = first_queued(words);
-    f.there & is_better(buy, price, f.price as u64)
+    match first_queued(words) {
+        Some(f) => is_better(buy, price, u64::from(f.price)),
+        None => false,
+    }
 }

@@ -1,5 +1,5 @@
 -- Demand 3, M-101 to M-103 and M-106 about the engine: claims about an opening and a list of messages, each taken in place by `step` or by `apply`.
-use Rattle.std.specs.Prelude.{◌≡◌, List, [], ◌∷◌, ◌++◌, map, ℕ, ◌+◌, length, take}
+use Rattle.std.specs.Prelude.{◌≡◌, Option, List, [], ◌∷◌, ◌++◌, map, ℕ, ◌+◌, length, take}
 use Rattle.rules.specs.Basics.{All}
 use Rattle.rules.specs.Messages as M
 use Rattle.rules.specs.Outcome as O
@@ -150,7 +150,7 @@ RecordsByArrival = (o : Opening) (c : Copy o) → AllStand no_arrivals (start_of
 
 -- what any order is told by `average_of`, asked with the list of numbers as it came back and the fills that the outcome counts
 abbrev pub Asked : {longs words : List ℕ} → Taken longs words → Type 0
-Asked a = (i : ℕ) (r : Average) → IsAverage (list_after a) (fill_count (outcome_by a)) i r → Says i (told_by a) (average_of r)
+Asked a = (i : ℕ) (r : Option Average) → IsAverage (list_after a) (fill_count (outcome_by a)) i r → Says i (told_by a) (average_of r)
 
 abbrev pub AllAsked : {longs words : List ℕ} → Run longs words → Type 0
 AllAsked (over longs words) = Unit {0}

@@ -1,8 +1,8 @@
 -- A message taken in and followed up, and the answer that comes of it.
-use mathlib.Core.Path.{◌≡◌, refl, ap, subst, ◌∙◌}
+use mathlib.Core.Path.{◌≡◌, refl, ap, subst, sym, ◌∙◌}
 use mathlib.Core.Bool.{Bool, true, false}
 use mathlib.Core.List.{List}
-use Prim.Native.Nat.{ℕ, zero, suc, ◌+◌, ◌-◌, ◌*◌, ◌/◌, ◌≤◌, ◌<◌, min}
+use Prim.Native.Nat.{ℕ, ◌+◌, ◌-◌, ◌*◌, ◌/◌, ◌≤◌, min}
 use native.Mathlib.Omega.{arith}
 use borrow.Author.Tests.{eq-eqb, ne_eqb}
 use lib.Dec.{eqb}
@@ -11,40 +11,25 @@ use Rattle.rules.specs.Basics.{pick}
 use Rattle.rules.specs.Strategy.{most_number, most_time}
 use Rattle.rules.specs.Messages.{Message}
 use Rattle.rules.specs.State.{State, taken}
-use Rattle.rules.specs.Outcome.{by_time, by_order, by_legs, by_cancel, Refused}
+use Rattle.rules.specs.Outcome.{Refused}
 use Rattle.rules.specs.Refusals.{least_room, refusal}
-use Rattle.rules.specs.Execution.{Reply, still}
+use Rattle.rules.specs.Execution.{Reply}
 use Rattle.rules.specs.Step as R
-use Rattle.rules.specs.Step.{ends, Intake, take_in, ending, follow, records_of, prices_of, watched, acted, accepted, step}
+use Rattle.rules.specs.Step.{Intake, take_in, follow, records_of, prices_of, watched, acted, accepted, step}
 use Rattle.rules.proofs.BoundLaws.{acted-fits}
 use Rattle.types.specs.View.{outcome_of}
 use Rattle.types.proofs.TableLaws.{from-length, from_end}
 use Rattle.state.specs.Layout as L
-use Rattle.state.specs.Layout.{is_sized}
+use Rattle.state.specs.Layout.{Sized, is_sized}
+use Rattle.state.proofs.StateLaws.{sized_is, sized_not}
 use Rattle.state.specs.View.{entry_at, open_count, state_of}
 use Rattle.records.specs.Records.{width, record_in, prices_in, AddsPriced}
+use Rattle.intake.specs.declared.Act.{Act}
 use Rattle.intake.specs.Acts.{act_of, Takes}
 use Rattle.execution.specs.Plays.{Goes}
 use Rattle.engine.specs.declared.Answer.{Answer}
 use Rattle.engine.specs.Steps.{places_in, refusal_in, IsAccepted, IsStep}
 use Rattle.engine.proofs.StepLaws.{passes, no_places}
-
--- ---- what it sets off
-
-pub follow-ending : (s : State) (n : ℕ) → 2 < n → ending s ≡ follow s (act_of n)
-follow-ending s n h = rw (ne_eqb n 0 (λ e. omega arith), ne_eqb n 1 (λ e. omega arith), ne_eqb n 2 (λ e. omega arith)) (go (eqb n 3) (eqb n 4) (eqb n 5))
-  where
-    go : (a b c : Bool) → ending s ≡ follow s (pick a (ends by_time) (pick b (ends by_order) (pick c (ends by_legs) (ends by_cancel))))
-    go true b c = refl
-    go false true c = refl
-    go false false true = refl
-    go false false false = refl
-
-pub follow-still : (s : State) (n : ℕ) → (n ≡ 0 → ⊥) → n ≤ 2 → follow s (act_of n) ≡ still s
-follow-still s zero h q = absurd (h refl)
-follow-still s (suc zero) h q = refl
-follow-still s (suc (suc zero)) h q = refl
-follow-still s (suc (suc (suc n))) h q = absurd (omega arith)
 
 -- ---- a message that is not refused
 
@@ -54,7 +39,7 @@ few l w m =
     let z : open_count w - 0 ≤ 64 = omega arith in
     (acted-fits (taken (state_of l w) m.time) m.body (rw (from-length (entry_at l w) 0 (open_count w)) z)).0
 
-module _ (l l₁ w : List ℕ) (u : State) (l₂ w₂ list l₃ w₃ list' : List ℕ) (act n : ℕ) (m : Message) (t : state_of l₁ w ≡ taken (state_of l w) m.time) (i : Takes (state_of l₁ w) u act (λ s. take_in s m.body)) (v : state_of l₂ w₂ ≡ watched m.body u) (g : Goes l₂ w₂ list 0 l₃ w₃ list' n (λ s. follow s (act_of act))) where
+module _ (l l₁ w : List ℕ) (u : State) (l₂ w₂ list l₃ w₃ list' : List ℕ) (act : Act) (n : ℕ) (m : Message) (t : state_of l₁ w ≡ taken (state_of l w) m.time) (i : Takes (state_of l₁ w) u act (λ s. take_in s m.body)) (v : state_of l₂ w₂ ≡ watched m.body u) (g : Goes l₂ w₂ list 0 l₃ w₃ list' n (λ s. follow s (act_of act))) where
   abbrev taken_in : Intake
   taken_in = take_in (taken (state_of l w) m.time) m.body
 
@@ -143,3 +128,13 @@ module _ (l w list : List ℕ) (m : Message) (room : ℕ) where
         inside = (omega arith, omega arith);
         refused = λ x. (refl, refl, refl);
       }
+
+-- ---- the places of a list, by the slices' lengths
+
+pub all-fit : (l w list : List ℕ) (room n : ℕ) → Sized l w → n ≡ min room (length list / width) → n ≡ places_in l w list room
+all-fit l w list room n s e = rw (sized_is l w s) e
+
+pub unfit : (l w list : List ℕ) (m : Message) (room : ℕ) (r : Answer) → (Sized l w → ⊥) → r.count ≡ 0 → outcome_of r.outcome ≡ Refused 10 → IsStep l w list m room l w list r
+unfit l w list m room r n c o =
+    let e : refusal (state_of l w) m (places_in l w list room) ≡ 10 = rw (sized_not l w n) (no_places (state_of l w) m) in
+    step_refused l w list m room r (λ z. absurd (omega (arith, e, z))) c (o ∙ ap Refused (sym e))

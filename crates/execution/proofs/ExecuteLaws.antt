@@ -4,7 +4,6 @@ use mathlib.Core.Bool.{Bool, true, ◌&&◌}
 use mathlib.Core.List.{List, [], ◌∷◌, ◌++◌, append-nil}
 use Prim.Native.Nat.{ℕ, zero, suc, ◌+◌, ◌-◌, ◌≤◌, min}
 use native.Mathlib.Omega.{arith}
-use borrow.Author.Tests.{ne_eqb}
 use lib.Dec.{leb}
 use lib.ListN.{length, get_or, set, take, drop, replicate}
 use Rattle.rules.specs.Basics.{sum, zeros, Below}
@@ -28,13 +27,12 @@ use Rattle.records.specs.Records.{record_in, Adds, AddsPriced}
 use Rattle.legprices.specs.Books.{IsBooked}
 use Rattle.quotes.specs.Uses.{most_derived}
 use Rattle.execution.specs.Reach.{at_or_through}
-use Rattle.execution.specs.Slots.{mode_of, offers_in, legs_within}
+use Rattle.execution.specs.Slots.{offers_in, legs_within}
 use Rattle.execution.specs.Turned.{slot_records, Cleared, Turned, order_at, IsContra, TurnedAt, Gives}
 use Rattle.execution.specs.declared.Order.{Order}
 use Rattle.execution.specs.Plays.{Goes}
 use Rattle.execution.proofs.SlotLaws.{cleared}
 use Rattle.execution.proofs.FillLaws.{fills_first}
-use Rattle.execution.proofs.OpenLaws.{outside}
 
 open_count_lem : (longs words : List ℕ) → length (entries_of longs words) ≡ open_count words
 open_count_lem longs words = from-length (entry_at longs words) 0 (open_count words) ∙ (let z : open_count words - 0 ≡ open_count words = omega arith in z)
@@ -54,9 +52,6 @@ open_turned m longs words k price o ps us n gave took old at new r e q f t =
     (subst (λ (es : List Offer). Turned (get_or longs L.next 0 - 1) (get_or words (L.ids + k) 0) (get_or words (L.units + k) 0) es (take n gave) took old at new r) f u)
 
 -- ---- the legs' pass
-
-pub mode_legs : (n : ℕ) → 2 ≤ n → mode_of n ≡ legs_pass
-mode_legs n h = rw (ne_eqb n 0 (λ e. omega arith), ne_eqb n 1 (λ e. omega arith))
 
 -- the first offer alone has units
 below_none : (ts ss : List ℕ) → Below ts (zeros ss) → ts ≡ zeros ss
@@ -145,10 +140,6 @@ kept_by-first from_queue none d gs hs e = refl
 kept_by-first from_queue (pending p) d gs hs e = ap (λ (x : ℕ). pending (keeping (gone d.price x p.start) p)) e
 kept_by-first going_live a d gs hs e = refl
 kept_by-first legs_pass a d gs hs e = refl
-
--- a turn outside an auction takes nothing from it
-pub kept_outside : (mode : ℕ) (s : State) (d : Derived) (gs : List ℕ) → (mode ≡ 0 → ⊥) → s ≡ with_auction s (kept_after (mode_of mode) s.auction (d ∷ []) gs)
-kept_outside mode s d gs h = outside (λ m. s ≡ with_auction s (kept_after m s.auction (d ∷ []) gs)) mode h refl refl
 
 -- as many grants as entries are read
 settled-take : (i n : ℕ) (t : Stage) (es : List Entry) (gs : List ℕ) (m : ℕ) → length es ≤ m → settled i n t es (take m gs) ≡ settled i n t es gs

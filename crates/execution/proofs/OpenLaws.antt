@@ -1,53 +1,22 @@
--- What is open to an order, slot by slot: modes and stages as numbers, an offer from its tier and units, and what is open to an order as a table.
+-- What is open to an order, slot by slot: an offer from its tier and units, and what is open to an order as a table.
 use mathlib.Core.Path.{◌≡◌, refl, ap, ap₂, sym, ◌∙◌}
-use mathlib.Core.Bool.{not}
 use mathlib.Core.List.{List, [], ◌∷◌, ◌++◌}
 use Prim.Native.Nat.{ℕ, zero, suc, ◌+◌, ◌-◌, ◌*◌, ◌/◌, ◌%◌, ◌≤◌, ◌<◌}
-use native.Mathlib.Decide.{ℕ_discrete}
 use native.Mathlib.Omega.{arith}
 use borrow.Author.Count.{below_more}
-use borrow.Author.Tests.{ne_eqb, lt-ltb, le-ltb}
-use lib.Dec.{eqb}
+use borrow.Author.Tests.{lt-ltb, le-ltb}
 use lib.ListN.{length, get_or, set}
 use lib.Seq.{get_or-set_same, get_or-set_other}
 use Rattle.rules.specs.Prices.{Derived}
-use Rattle.rules.specs.Book.{Stage, held, live, queued, answer, Entry}
+use Rattle.rules.specs.Book.{Entry}
 use Rattle.rules.specs.State.{contra_price}
 use Rattle.rules.specs.Turn.{Rank, L, C, N, T, R, rank_number, legs, entry, key_of, Offer, tier}
-use Rattle.rules.specs.Execution.{Mode, from_queue, going_live, legs_pass, opens, offers_of, legs_lead, split_offers, all_up_to, interest, inside}
-use Rattle.rules.proofs.TestLaws.{pick_both}
-use Rattle.types.specs.View.{upto, from, stage_of}
+use Rattle.rules.specs.Execution.{Mode, offers_of, legs_lead, split_offers, all_up_to, interest, inside}
+use Rattle.types.specs.View.{upto, from, rank_from}
 use Rattle.types.proofs.TableLaws.{from_cons}
 use Rattle.state.specs.View.{entry_at, open_count, auction_of, state_of}
 use Rattle.state.proofs.TableLaws.{from-same}
-use Rattle.records.specs.Records.{rank_from}
-use Rattle.execution.specs.Slots.{mode_of, offer_in, offers_in, Ranked, legs_within, book_offer, Stand}
-
--- ---- modes and stages
-
-pub outside : (P : Mode → Type 0) (n : ℕ) → (n ≡ 0 → ⊥) → P going_live → P legs_pass → P (mode_of n)
-outside P n h p q = rw (ne_eqb n 0 h) (pick_both P (eqb n 1) p q)
-
-by_stage : (P : ℕ → Stage → Type 0) → P 0 held → P 1 live → P 2 queued → ((n : ℕ) → (n ≡ 1 → ⊥) → (n ≡ 2 → ⊥) → P n answer) → (n : ℕ) → P n (stage_of n)
-by_stage P p q r s n =
-    elim (ℕ_discrete n 0) [
-      | yes e ↦ rw e p
-      | no h ↦
-          elim (ℕ_discrete n 1) [
-            | yes e ↦ rw e q
-            | no k ↦
-                elim (ℕ_discrete n 2) [
-                  | yes e ↦ rw e r
-                  | no l ↦ rw (ne_eqb n 0 h, ne_eqb n 1 k, ne_eqb n 2 l) (s n k l)
-                ]
-          ]
-    ]
-
-pub queue-opens : (n : ℕ) → not (eqb n 2) ≡ opens from_queue (stage_of n)
-queue-opens n = by_stage (λ k t. not (eqb k 2) ≡ opens from_queue t) refl refl refl (λ k a b. rw (ne_eqb k 2 b)) n
-
-pub live_opens : (n : ℕ) → eqb n 1 ≡ opens going_live (stage_of n)
-live_opens n = by_stage (λ k t. eqb k 1 ≡ opens going_live t) refl refl refl (λ k a b. rw (ne_eqb k 1 a)) n
+use Rattle.execution.specs.Slots.{offer_in, offers_in, Ranked, legs_within, book_offer, Stand}
 
 -- ---- an offer's key and rank, from its tier
 

@@ -2,14 +2,13 @@
 use mathlib.Core.Path.{◌≡◌, refl, ap, sym, ◌∙◌}
 use mathlib.Core.Bool.{Bool, true, false}
 use mathlib.Core.List.{List, [], ◌∷◌, ◌++◌, append_assoc, append-nil}
-use Prim.Native.Nat.{ℕ, ◌+◌, ◌≤◌, ◌<◌, min}
+use Prim.Native.Nat.{ℕ, ◌+◌, ◌<◌, min}
 use native.Mathlib.Numerals.{add-one}
 use native.Mathlib.Omega.{arith}
-use borrow.Author.Tests.{ltb-true, ltb-false, lt-ltb, le-ltb}
+use borrow.Author.Tests.{ltb-true, ltb-false}
 use lib.Dec.{ltb}
 use lib.ListN.{length, get_or, take}
 use lib.Seq.{take-suc, take_all}
-use Rattle.rules.specs.Basics.{pick}
 use Rattle.rules.specs.State.{State}
 use Rattle.rules.specs.Book.{Entry, nobody, found, find}
 use Rattle.rules.specs.Execution.{Mode, Reply, still, then, ready, execute_if, execute, serve}
@@ -52,16 +51,17 @@ take_least i n ids e = go (ltb n (length ids)) refl
         let h = ltb-false n (length ids) t in
         take_all i ids (omega (arith, e, h)) ∙ sym (take_all n ids h)
 
--- what was found under an id, k being the place up to which n entries were searched
-module _ (m : Mode) (s : State) (i k n : ℕ) (o : Entry) (e : find i s.book ≡ pick (ltb k n) (found o) nobody) where
-  pub nobody-there : n ≤ k → execute m i s ≡ still s
+-- what was found under an id
+module _ (m : Mode) (s : State) (i : ℕ) where
+  pub nobody-there : find i s.book ≡ nobody → execute m i s ≡ still s
   unfolding execute
-  nobody-there h = rw (e, le-ltb k n h) refl
+  nobody-there e = rw e refl
 
-  pub not-ready : k < n → ready m s o ≡ false → execute m i s ≡ still s
-  unfolding execute
-  not-ready h r = rw (e, lt-ltb k n h, r) refl
+  module _ (o : Entry) (e : find i s.book ≡ found o) where
+    pub not-ready : ready m s o ≡ false → execute m i s ≡ still s
+    unfolding execute
+    not-ready r = rw (e, r) refl
 
-  pub ready-there : k < n → ready m s o ≡ true → execute_if true m s o ≡ execute m i s
-  unfolding execute
-  ready-there h r = sym (rw (e, lt-ltb k n h, r) refl)
+    pub ready-there : ready m s o ≡ true → execute_if true m s o ≡ execute m i s
+    unfolding execute
+    ready-there r = sym (rw (e, r) refl)

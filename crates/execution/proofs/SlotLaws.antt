@@ -12,10 +12,10 @@ use lib.Seq.{length-take-le, drop-cons, take-suc-set, take-set-lt, drop-set-lt, 
 use Rattle.rules.specs.Basics.{sum, pick, zeros}
 use Rattle.rules.specs.Prices.{cents}
 use Rattle.rules.specs.Turn.{rank_number, Contra, Offer, tier, sizes, Fill, fill_of, fills_at}
-use Rattle.types.specs.View.{upto}
+use Rattle.types.specs.View.{upto, narrow, rank_from, contra_from}
 use Rattle.types.proofs.TableLaws.{from-length, from_last}
 use Rattle.share.proofs.LoopLaws.{row, row_end, push}
-use Rattle.records.specs.Records.{narrow, most_given, rank_from, contra_from, record_from, Adds}
+use Rattle.records.specs.Records.{most_given, record_from, Adds}
 use Rattle.records.proofs.RecordLaws.{adds_then}
 use Rattle.execution.specs.Slots.{offer_in, offers_in, Ranked}
 use Rattle.execution.specs.Walk.{spots, no_tier, nearer, least_from, sizes_of, over, Under}

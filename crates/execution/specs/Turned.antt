@@ -5,12 +5,13 @@ use Rattle.rules.specs.Prices.{cents, Derived}
 use Rattle.rules.specs.State.{contra_price}
 use Rattle.rules.specs.Turn.{legs, entry, Offer, tiers, turn, Fill, fills_at, fills_of}
 use Rattle.rules.specs.Execution.{Mode, inside, turn_of}
+use Rattle.types.specs.View.{rank_from}
 use Rattle.state.specs.Layout as L
-use Rattle.state.specs.Layout.{WordsSized}
 use Rattle.state.specs.View.{entry_at, open_count, state_of}
 use Rattle.state.specs.Lent.{Lent, LentMut}
-use Rattle.records.specs.Records.{most_given, rank_from, Adds, Writes}
+use Rattle.records.specs.Records.{most_given, Adds, Writes}
 use Rattle.execution.specs.Slots.{offers_in, Ranked}
+use Rattle.execution.specs.declared.offers.Slots.{Slots}
 use Rattle.execution.specs.declared.Order.{Order}
 
 -- the record of units that a slot gives an order, by the legs' price and the number of its rank
@@ -29,14 +30,14 @@ slot_record number order price words rank s units =
 abbrev pub slot_records : ℕ → ℕ → ℕ → List ℕ → ℕ → ℕ → ℕ → List Fill
 slot_records number order price words rank s units = pick (ltb 0 units) (slot_record number order price words rank s units ∷ []) []
 
--- the first n slots stand at these tiers, and records can be written of what they give an order
-abbrev pub Slotted : List ℕ → List ℕ → Order → ℕ → Type 0
-Slotted words tiers o n = WordsSized words × (o.legs ≤ most_given) × (n ≤ 66) × (length tiers ≡ 66) × Ranked n tiers
+-- records can be written of what the slots give an order
+abbrev pub Slotted : Slots → Order → Type 0
+Slotted l o = (o.legs ≤ most_given) × (l.count ≤ 66) × Ranked l.count l.tiers
 
 -- the records of those at tier k are added, by their grants: neither arrivals nor units are read
-abbrev pub WritesAt : ℕ → Lent → LentMut → ℕ → ℕ → Order → Lent → ℕ → LentMut → Type 0
-WritesAt k words list at r o tiers n gave =
-    (longs units : List ℕ) → Writes list at r (fills_at o.number o.id k (offers_in longs words.entry.now o.legs tiers.entry.now units n) (take n gave.exit.now))
+abbrev pub WritesAt : ℕ → Lent → LentMut → ℕ → ℕ → Order → Slots → LentMut → Type 0
+WritesAt k words list at r o l gave =
+    (longs units : List ℕ) → Writes list at r (fills_at o.number o.id k (offers_in longs words.entry.now o.legs l.tiers units l.count) (take l.count gave.exit.now))
 
 -- no grants yet
 abbrev pub Cleared : List ℕ → Type 0
@@ -65,7 +66,7 @@ TurnedAt m longs words k gave took old at new r =
 -- the same said of what is lent, for a contract
 abbrev pub Turns : Mode → Lent → Lent → ℕ → LentMut → ℕ → LentMut → ℕ → ℕ → Type 0
 Turns m longs words k gave took list at r =
-    (length gave.exit.now ≡ 66) × TurnedAt m longs.entry.now words.entry.now k gave.exit.now took list.entry.now at list.exit.now r
+    TurnedAt m longs.entry.now words.entry.now k gave.exit.now took list.entry.now at list.exit.now r
 
 -- the grants and the units taken are those of its turn
 abbrev pub Gives : Mode → List ℕ → List ℕ → ℕ → List ℕ → ℕ → Type 0

@@ -7,43 +7,36 @@ ghost use Rattle.rules.specs.Book.{same_side};
 ghost use Rattle.rules.specs.State.{contra_price};
 ghost use Rattle.rules.specs.Turn.{key_of, rank_number};
 ghost use Rattle.rules.specs.Execution.{opens, rank_of, legs_lead, inside};
+ghost use Rattle.types.specs.View as V;
 ghost use Rattle.types.specs.View.{stage_of, derived_of};
 ghost use Rattle.state.specs.Layout as L;
-ghost use Rattle.state.specs.Layout.{Sized, WordsSized};
 ghost use Rattle.state.specs.View.{flag, entry_at, open_count, auction_of, state_of};
 ghost use Rattle.execution.specs.Reach.{at_or_through};
-ghost use Rattle.execution.specs.Slots.{mode_of, offers_in, Ranked, book_offer, Stand};
+ghost use Rattle.execution.specs.Slots.{mode_of, rules_mode, slot_offers, Ranked, book_offer, Stand};
 
 use super::kept;
-use state::{Book, Stage};
-use types::{Derived, Order};
+use state::{Book, Longs, Stage, Words};
+use types::{Derived, Order, Rank};
 
 // "A turn is each execution there: from the queue, on going live, in the legs' pass".
-#[derive(Drop)]
-pub struct Mode {}
-
-impl Mode {
-    pub const FROM_QUEUE: u8 = 0;
-
-    pub const GOING_LIVE: u8 = 1;
-
-    pub const LEGS_PASS: u8 = 2;
+#[derive(Clone, Copy)]
+pub enum Mode {
+    FromQueue,
+    GoingLive,
+    LegsPass,
 }
 
-// The numbers of the ranks in a tier, in their sequence at one price.
-#[derive(Drop)]
-pub struct Rank {}
+// The mode of a number: each number has one.
+impl From<u8> for Mode {
+    ghost from_gives = { λ n m. rules_mode m ≡ mode_of n };
 
-impl Rank {
-    pub const L: u32 = 0;
-
-    pub const C: u32 = 1;
-
-    pub const N: u32 = 2;
-
-    pub const T: u32 = 3;
-
-    pub const R: u32 = 4;
+    fn from(n: u8) -> Mode {
+        match n {
+            0 => Mode::FromQueue,
+            1 => Mode::GoingLive,
+            _ => Mode::LegsPass,
+        }
+    }
 }
 
 // The slots of the legs in rank L and in rank T, and the first of the book's.
@@ -58,6 +51,15 @@ impl Slot {
     pub const BOOK: usize = 2;
 }
 
+// The interest open to an order: the tier and the units of each slot, the first `count` of them in use.
+// Two arrays, not one of pairs: a tier that is given whole is given the units as they stand here.
+#[derive(Drop)]
+pub struct Slots {
+    pub tiers: [u32; 66],
+    pub units: [u32; 66],
+    pub count: usize,
+}
+
 // The greatest biased price.
 const MOST_BIASED: u64 = 2 * Order::MOST_CENTS as u64;
 
@@ -67,7 +69,7 @@ const MOST_BIASED: u64 = 2 * Order::MOST_CENTS as u64;
 fn key(buy: bool, price: u64) -> u32
     ensures { (result ≡ key_of buy price) × (result ≤ most_biased) }
 {
-    let p = number::lesser_long(price, MOST_BIASED);
+    let p = price.min(MOST_BIASED);
     if buy {
         p as u32
     } else {
@@ -76,18 +78,17 @@ fn key(buy: bool, price: u64) -> u32
 }
 
 // "Price by price, best first", and at one price rank by rank.
-fn tier(buy: bool, price: u64, rank: u32) -> u32
-    requires { rank < 8 }
-    ensures { result ≡ key_of buy price * 8 + rank }
+fn tier(buy: bool, price: u64, rank: Rank) -> u32
+    ensures { result ≡ key_of buy price * 8 + rank_number (V.rank_of rank) }
 {
-    key(buy, price) * 8 + rank
+    key(buy, price) * 8 + rank as u32
 }
 
 // Whether a price is within a limit.
 fn is_within(buy: bool, price: u64, limit: u32) -> bool
     ensures { result ≡ leb (key_of buy price) (key_of buy limit) }
 {
-    key(buy, price) <= key(buy, limit as u64)
+    key(buy, price) <= key(buy, u64::from(limit))
 }
 
 // Whether a limit is "at or through" a derived price that exists.
@@ -108,62 +109,59 @@ fn within(buy: bool, price: u64, last: u32, units: u32) -> u32
 // ---- the legs
 
 // How many units of the legs' price are of rank L, "and the remaining units are T"; "Outside an auction: L".
-fn legs_lead(longs: &[u64], words: &[u32], mode: u8, buy: bool, d: Derived) -> u32
-    requires { Sized longs.now words.now }
-    ensures { result ≡ legs_lead (mode_of mode) (auction_of longs.now words.now) buy (derived_of d) }
+fn legs_lead(longs: &Longs, words: &Words, mode: Mode, buy: bool, d: Derived) -> u32
+    ensures { result ≡ legs_lead (rules_mode mode) (auction_of longs.now words.now) buy (derived_of d) }
 {
-    if mode != Mode::FROM_QUEUE {
-        return d.units;
+    match mode {
+        Mode::FromQueue => kept::leading(longs, words, buy, d),
+        Mode::GoingLive | Mode::LegsPass => d.units,
     }
-    kept::leading(longs, words, buy, d)
 }
 
 // The units of the legs within a limit.
 pub fn legs_units(buy: bool, limit: u32, d: Derived) -> u32
     ensures { result ≡ pick (leb (key_of buy d.price) (key_of buy limit)) d.units 0 }
 {
-    let last = key(buy, limit as u64);
+    let last = key(buy, u64::from(limit));
     within(buy, d.price, last, d.units)
 }
 
 // ---- the book
 
 // "C, customer orders and responses; N, non-customer ones"; outside an auction R.
-fn entry_rank(mode: u8, customer: bool) -> u32
-    ensures { (result ≡ rank_number (rank_of (mode_of mode) customer)) × (result < 8) }
+fn entry_rank(mode: Mode, customer: bool) -> Rank
+    ensures { V.rank_of result ≡ rank_of (rules_mode mode) customer }
 {
-    if mode != Mode::FROM_QUEUE {
-        return Rank::R;
+    match mode {
+        Mode::FromQueue => if customer { Rank::C } else { Rank::N },
+        Mode::GoingLive | Mode::LegsPass => Rank::R,
     }
-    if customer { Rank::C } else { Rank::N }
 }
 
 // The tier of the entry at place i of the book.
-fn entry_tier(words: &[u32], mode: u8, buy: bool, i: usize) -> u32
-    requires { WordsSized words.now × (i < 64) }
-    ensures { result ≡ key_of buy (get_or words.now (L.prices + i) 0) * 8 + rank_number (rank_of (mode_of mode) (flag (get_or words.now (L.customers + i) 0))) }
+fn entry_tier(words: &Words, mode: Mode, buy: bool, i: usize) -> u32
+    requires { i < 64 }
+    ensures { result ≡ key_of buy (get_or words.now (L.prices + i) 0) * 8 + rank_number (rank_of (rules_mode mode) (flag (get_or words.now (L.customers + i) 0))) }
 {
-    let price = number::wide(words[Book::PRICES + i]);
+    let price = u64::from(words[Book::PRICES + i]);
     let customer = state::is_set(words[Book::CUSTOMERS + i]);
     tier(buy, price, entry_rank(mode, customer))
 }
 
 // "Open to a queue order: legs, live and held opposite orders, opposite responses. Open to a held order: legs and live opposite orders. In the legs' pass: legs."
-fn opens(mode: u8, stage: u32) -> bool
-    ensures { result ≡ opens (mode_of mode) (stage_of stage) }
+fn opens(mode: Mode, stage: u32) -> bool
+    ensures { result ≡ opens (rules_mode mode) (stage_of stage) }
 {
-    if mode == Mode::FROM_QUEUE {
-        return stage != Stage::QUEUED;
+    match mode {
+        Mode::FromQueue => stage != Stage::QUEUED,
+        Mode::GoingLive => stage == Stage::LIVE,
+        Mode::LegsPass => false,
     }
-    if mode == Mode::GOING_LIVE {
-        return stage == Stage::LIVE;
-    }
-    false
 }
 
 // The units of an opposite entry at such a stage, none of another.
-fn open_units(mode: u8, buy: bool, other: bool, stage: u32, units: u32) -> u32
-    ensures { result ≡ pick (opens (mode_of mode) (stage_of stage) && not (same_side buy other)) units 0 }
+fn open_units(mode: Mode, buy: bool, other: bool, stage: u32, units: u32) -> u32
+    ensures { result ≡ pick (opens (rules_mode mode) (stage_of stage) && not (same_side buy other)) units 0 }
 {
     if opens(mode, stage) & !book::same_side(buy, other) {
         units
@@ -173,12 +171,12 @@ fn open_units(mode: u8, buy: bool, other: bool, stage: u32, units: u32) -> u32
 }
 
 // The units of the entry at place i of the book that are open to an order within its limit, whose key is given.
-fn entry_units(words: &[u32], mode: u8, buy: bool, last: u32, i: usize) -> u32
-    requires { WordsSized words.now × (i < 64) }
+fn entry_units(words: &Words, mode: Mode, buy: bool, last: u32, i: usize) -> u32
+    requires { i < 64 }
     ensures { result ≡ pick (leb (key_of buy (get_or words.now (L.prices + i) 0)) last)
-        (pick (opens (mode_of mode) (stage_of (get_or words.now (L.stages + i) 0)) && not (same_side buy (flag (get_or words.now (L.buys + i) 0)))) (get_or words.now (L.units + i) 0) 0) 0 }
+        (pick (opens (rules_mode mode) (stage_of (get_or words.now (L.stages + i) 0)) && not (same_side buy (flag (get_or words.now (L.buys + i) 0)))) (get_or words.now (L.units + i) 0) 0) 0 }
 {
-    let price = number::wide(words[Book::PRICES + i]);
+    let price = u64::from(words[Book::PRICES + i]);
     let other = state::is_set(words[Book::BUYS + i]);
     let units = open_units(
         mode,
@@ -190,55 +188,39 @@ fn entry_units(words: &[u32], mode: u8, buy: bool, last: u32, i: usize) -> u32
     within(buy, price, last, units)
 }
 
-// The interest of the book that is open to the order at place k within its limit, the entry at place i in slot i + 2. How many entries there are.
-fn book_interest(
-    words: &[u32],
-    mode: u8,
-    k: usize,
-    tiers: &mut [u32; 66],
-    units: &mut [u32; 66],
-) -> usize
-    requires { WordsSized words.now × (k < 64) × (length tiers.old ≡ 66) × (length units.old ≡ 66) }
-    ensures { (result ≡ open_count words.now) × (length tiers.new ≡ 66) × (length units.new ≡ 66)
-        × ((longs : List ℕ) → Stand (book_offer (mode_of mode) longs words.now k) result tiers.new units.new) }
+// The interest of the book that is open to the order at place k within its limit, the entry at place i in slot i + 2.
+fn book_interest(words: &Words, mode: Mode, k: usize, slots: &mut Slots)
+    requires { k < 64 }
+    ensures { (slots.new.count ≡ open_count words.now + 2) × (length slots.new.tiers ≡ 66) × (length slots.new.units ≡ 66)
+        × ((longs : List ℕ) → Stand (book_offer (rules_mode mode) longs words.now k) (open_count words.now) slots.new.tiers slots.new.units) }
 {
     let m = state::open_count(words);
     let buy = state::is_set(words[Book::BUYS + k]);
-    let last = key(buy, number::wide(words[Book::PRICES + k]));
-    let mut i = 0;
-    while i < m {
-        tiers[i + Slot::BOOK] = entry_tier(words, mode, buy, i);
-        units[i + Slot::BOOK] = entry_units(words, mode, buy, last, i);
-        i += 1;
+    let last = key(buy, u64::from(words[Book::PRICES + k]));
+    for i in 0..m {
+        slots.tiers[i + Slot::BOOK] = entry_tier(words, mode, buy, i);
+        slots.units[i + Slot::BOOK] = entry_units(words, mode, buy, last, i);
     }
-    m
+    slots.count = m + Slot::BOOK;
 }
 
 // ---- both
 
-// The interest open to the order at place k within its limit, as its turn begins: the legs at their derived price in both ranks, then the book by arrival. How many slots it has.
-pub fn interest(
-    longs: &[u64],
-    words: &[u32],
-    mode: u8,
-    k: usize,
-    d: Derived,
-    tiers: &mut [u32; 66],
-    units: &mut [u32; 66],
-) -> usize
-    requires { Sized longs.now words.now × (k < 64) × (length tiers.old ≡ 66) × (length units.old ≡ 66)
+// The interest open to the order at place k within its limit, as its turn begins: the legs at their derived price in both ranks, then the book by arrival.
+// Filled in place: a result of this size would be copied.
+pub fn interest(longs: &Longs, words: &Words, mode: Mode, k: usize, d: Derived, slots: &mut Slots)
+    requires { (k < 64)
         × (derived_of d ≡ contra_price (state_of longs.now words.now) (entry_at longs.now words.now k).buy) }
-    ensures { (result ≡ open_count words.now + 2) × (length tiers.new ≡ 66) × (length units.new ≡ 66) × Ranked result tiers.new
-        × (offers_in longs.now words.now d.price tiers.new units.new result
-        ≡ inside (mode_of mode) (state_of longs.now words.now) (entry_at longs.now words.now k)) }
+    ensures { (slots.new.count ≡ open_count words.now + 2) × Ranked slots.new.count slots.new.tiers
+        × (slot_offers longs.now words.now d.price slots.new
+        ≡ inside (rules_mode mode) (state_of longs.now words.now) (entry_at longs.now words.now k)) }
 {
-    let m = book_interest(words, mode, k, tiers, units);
+    book_interest(words, mode, k, slots);
     let buy = state::is_set(words[Book::BUYS + k]);
-    let last = key(buy, number::wide(words[Book::PRICES + k]));
+    let last = key(buy, u64::from(words[Book::PRICES + k]));
     let lead = legs_lead(longs, words, mode, buy, d);
-    tiers[Slot::LEAD] = tier(buy, d.price, Rank::L);
-    units[Slot::LEAD] = within(buy, d.price, last, lead);
-    tiers[Slot::LATE] = tier(buy, d.price, Rank::T);
-    units[Slot::LATE] = within(buy, d.price, last, number::less(d.units, lead));
-    m + Slot::BOOK
+    slots.tiers[Slot::LEAD] = tier(buy, d.price, Rank::L);
+    slots.units[Slot::LEAD] = within(buy, d.price, last, lead);
+    slots.tiers[Slot::LATE] = tier(buy, d.price, Rank::T);
+    slots.units[Slot::LATE] = within(buy, d.price, last, d.units.saturating_sub(lead));
 }

@@ -4,8 +4,8 @@
 ghost use Rattle.std.specs.Prelude.{◌*◌, ◌≤◌, length};
 ghost use Rattle.rules.specs.Refusals.{least_room};
 ghost use Rattle.rules.specs.Tape.{header_bytes, fields_of as fields_in};
+ghost use Rattle.types.specs.Refusals.{number_in};
 ghost use Rattle.types.specs.View.{outcome_of};
-ghost use Rattle.state.specs.Layout.{Sized};
 ghost use Rattle.records.specs.Records.{width};
 ghost use Rattle.tape.specs.View.{fields_of, strategy_from};
 ghost use Rattle.opening.specs.Opens.{IsOpened};
@@ -14,6 +14,7 @@ ghost use Rattle.text.specs.Outputs.{most_line, PutsText};
 ghost use Rattle.feed.specs.Replies.{Answers, Tells, IsRun};
 
 use engine::Answer;
+use state::{Longs, Words};
 use tape::{Fields, Header, Section};
 use types::{Fill, Outcome, Refusal};
 
@@ -30,8 +31,8 @@ pub struct Cursor {
 // ---- the answers
 
 // A header, and the legs right behind it. The header's offsets and its message count are not used.
-pub fn open(longs: &mut [u64], words: &mut [u32], head: &[u8]) -> u32
-    ensures { IsOpened longs words (strategy_from header_bytes head.now) result }
+pub fn open(longs: &mut [u64], words: &mut [u32], head: &[u8]) -> Result<(), Refusal>
+    ensures { IsOpened longs words (strategy_from header_bytes head.now) (number_in result) }
 {
     let o = tape::strategy_from(head, Header::BYTES as u16);
     opening::open(longs, words, o)
@@ -53,7 +54,7 @@ pub fn answer_of(
     }
     Answer {
         count: 0,
-        outcome: Outcome::Refused(Refusal::NO_KIND),
+        outcome: Outcome::Refused(Refusal::Kind),
     }
 }
 
@@ -78,14 +79,14 @@ fn put_outcome(out: &mut [u8], at: usize, o: Outcome) -> usize
 
 // A message record answered: the outcome's line, and then those of its records, each with its leg prices, and their averages.
 pub fn tell(
-    longs: &mut [u64],
-    words: &mut [u32],
+    longs: &mut Longs,
+    words: &mut Words,
     list: &mut [u64],
     out: &mut [u8],
     at: usize,
     p: &[u8],
 ) -> usize
-    requires { Sized longs.old words.old × (least_room * width ≤ length list.old) }
+    requires { least_room * width ≤ length list.old }
     ensures { Tells longs words list out at p.now result }
 {
     let a = answer(longs, words, list, p);
@@ -98,20 +99,21 @@ pub fn tell(
 
 // The whole records of an input from a position on, until all are told or the output is written past an offset.
 pub fn run(
-    longs: &mut [u64],
-    words: &mut [u32],
+    longs: &mut Longs,
+    words: &mut Words,
     list: &mut [u64],
     out: &mut [u8],
     input: &[u8],
     p: Cursor,
     most: usize,
 ) -> Cursor
-    requires { Sized longs.old words.old × (least_room * width ≤ length list.old) }
+    requires { least_room * width ≤ length list.old }
     ensures { IsRun longs words out input p most result }
 {
     let count = input.len() / RECORD;
-    let mut at = number::lesser_size(p.at, out.len());
+    let mut at = p.at.min(out.len());
     let mut position = p.position;
+    // No `for`: the position, handed back behind it, would be worked out anew as `p.position.max(count)`.
     while position < count {
         if most < at {
             return Cursor { position, at };

@@ -17,11 +17,8 @@ pub fn apply(
     ensures { IsApplied longs.old words.old list.old fills.old (message_of m) result longs.new words.new list.new fills.new }
 {
     let a = engine::step(longs, words, list, m, fills.len());
-    let mut i: usize = 0;
-    while i < a.count {
-        let f = records::fill_at(list, i);
-        fills[i] = f;
-        i += 1;
+    for i in 0..a.count {
+        fills[i] = records::fill_at(list, i);
     }
     a.outcome
 }

@@ -7,6 +7,10 @@ use native.Mathlib.Omega.{arith}
 use lib.ListN.{length, get_or, drop, take-append-drop}
 use lib.Seq.{sets, sets-eq, get_or-drop, drop-drop}
 use Rattle.rules.specs.Tape.{header_bytes, leg_bytes, Header, header_of, leg_of, legs_from, tape_refusal}
+use Rattle.std.specs.Prelude.{Result, Ok, Err, IsErrAnd}
+use Rattle.types.specs.declared.Refusal.{Refusal}
+use Rattle.types.specs.Refusals.{number_of}
+use Rattle.types.proofs.RefusalLaws.{is_some_number}
 use Rattle.rules.specs.Spelling.{Bytes, little_endian, meant_from, field_bytes, header_fields, leg_form, legs_form, messages_form, meaning_of, form_from, form_of, reply_to, buffer_after, Accepted, OneForm, OneSpelling, GoodReply, FormsAreWritten}
 use Rattle.rules.specs.Spelling as R
 use Rattle.rules.proofs.SpellingLaws.{byte_back, bytes_at_lem, bytes_drop}
@@ -15,7 +19,7 @@ use Rattle.rules.proofs.HandedLaws.{one_spelling, forms_are_written}
 use Rattle.types.specs.View.{upto}
 use Rattle.tape.proofs.LegLaws.{bytes_are}
 use Rattle.text.specs.Buffer.{Wrote}
-use Rattle.form.specs.Writes.{bytes_at, counts_in, size_in, form_in, Holds}
+use Rattle.form.specs.Writes.{bytes_at, counts_in, size_in, form_in, Holds, reply_of}
 use Rattle.form.proofs.RecordLaws.{half_bytes, word_bytes, long_bytes, four_bytes, eight-bytes}
 
 -- ---- the header
@@ -110,10 +114,15 @@ tape_holds t h =
     record { header = s.least; legs = s.legs; messages = s.messages; size = omega (arith, s.room, s.most) }
 
 -- under 60 and 61
-pub is_refused : (t buffer : List ℕ) (n : ℕ) → n ≡ tape_refusal t → (n ≡ 0 → ⊥) → (record { number = n; size = 0 } ≡ reply_to t buffer) × (buffer ≡ buffer_after t buffer)
+is_refused : (t buffer : List ℕ) (n : ℕ) → n ≡ tape_refusal t → (n ≡ 0 → ⊥) → (record { number = n; size = 0 } ≡ reply_to t buffer) × (buffer ≡ buffer_after t buffer)
 is_refused t buffer n e h =
     let g = (good_reply t buffer).refused (λ z. h (e ∙ z)) in
     (sym (g.0 ∙ ap (λ (k : ℕ). record { number = k; size = 0 }) (sym e)), sym g.1)
+
+-- the same by the row handed on
+pub turned-back : (t buffer : List ℕ) (r : Result ℕ Refusal) (row : Refusal) → IsErrAnd r (λ f. f ≡ row) → number_of row ≡ tape_refusal t → (reply_of r ≡ reply_to t buffer) × (buffer ≡ buffer_after t buffer)
+turned-back t buffer (Ok n) row h e = absurd h
+turned-back t buffer (Err f) row h e = let p : 0 < number_of f = is_some_number f in is_refused t buffer (number_of f) (ap number_of h ∙ e) (λ z. omega arith)
 
 -- under 70
 pub is_short : (t buffer : List ℕ) → Accepted t → length buffer < size_in (header_of t) → (record { number = 70; size = 0 } ≡ reply_to t buffer) × (buffer ≡ buffer_after t buffer)
@@ -130,7 +139,7 @@ is_done t buffer after r a h e w =
     let x : after ≡ form_of t ++ drop n buffer
     = w.holds ∙ ap (sets buffer 0) (form_is t a.bytes) ∙ sets-eq (form_of t) buffer 0 (omega arith) ∙ ap (λ (k : ℕ). form_of t ++ drop k buffer) z in
     let y : buffer_after t buffer ≡ form_of t ++ drop n buffer = sym (take-append-drop n (buffer_after t buffer)) ∙ ap₂ (λ (p : List ℕ) (q : List ℕ). p ++ q) g.1 g.2 in
-    (ap (λ (k : ℕ). record { number = 0; size = k }) (e ∙ sym s) ∙ sym g.0, x ∙ sym y)
+    (◌∙◌ {b = record { number = 0; size = n }} (ap (λ (k : ℕ). record { number = 0; size = k }) (e ∙ sym s)) (sym g.0), x ∙ sym y)
 
 -- ---- what a reply says
 

@@ -1,12 +1,13 @@
 -- Bytes written into a lent buffer, and the written form as parts of a tape.
-use Rattle.std.specs.Prelude.{◌≡◌, List, ◌++◌, ℕ, ◌+◌, ◌-◌, ◌*◌, ◌≤◌, ◌<◌, length, get_or, drop}
+use Rattle.std.specs.Prelude.{◌≡◌, List, ◌++◌, ℕ, ◌+◌, ◌-◌, ◌*◌, ◌≤◌, ◌<◌, length, get_or, drop, Result, Ok, Err}
 use Rattle.rules.specs.Tape.{header_bytes, leg_bytes, message_bytes, Header}
 use Rattle.rules.specs.Spelling as R
 use Rattle.rules.specs.Spelling.{little_endian, meant_from, messages_form}
+use Rattle.types.specs.declared.Refusal.{Refusal}
+use Rattle.types.specs.Refusals.{number_in}
 use Rattle.types.specs.View.{upto}
 use Rattle.state.specs.Lent.{Lent, LentMut}
 use Rattle.text.specs.Buffer.{Wrote}
-use Rattle.form.specs.declared.Reply.{Reply}
 
 -- the bytes stand from an offset on, n of them, and r is the offset behind them
 abbrev pub Writes : List ℕ → ℕ → LentMut → ℕ → ℕ → Type 0
@@ -37,10 +38,15 @@ pub record Holds (h : Header) (t : List ℕ) : Type 0 where
   pub messages : h.message_count * message_bytes ≤ length t - h.message_offset
   pub size : size_in h < 65_536
 
--- what a writer gives
-abbrev pub reply_of : Reply → R.Reply
-reply_of r = record { number = r.number; size = r.size }
+-- the bytes of a form, 0 where it is not written
+abbrev pub size_of : Result ℕ Refusal → ℕ
+size_of (Ok n) = n
+size_of (Err r) = 0
+
+-- what a writer gives: the number that turns back, 0 for none, and the bytes of the form, 0 where it is not written
+abbrev pub reply_of : Result ℕ Refusal → R.Reply
+reply_of r = record { number = number_in r; size = size_of r }
 
 -- what a writer gives for a tape and a lent buffer, and the buffer then
-abbrev pub Formed : Lent → LentMut → Reply → Type 0
+abbrev pub Formed : Lent → LentMut → Result ℕ Refusal → Type 0
 Formed tape out r = (reply_of r ≡ R.reply_to tape.entry.now out.entry.now) × (out.exit.now ≡ R.buffer_after tape.entry.now out.entry.now)

@@ -9,6 +9,7 @@ ghost use Rattle.form.specs.Rows.{full, full_fourth, four, front_row, time_row, 
 ghost use Rattle.form.specs.Writes.{Writes, bytes_at, counts_in, size_in, Holds, form_in, Formed};
 
 use tape::{Fields, Header, Section, Uses};
+use types::Refusal;
 
 // The bytes of a leg and of a message record; those of a row for each kind, and of those before a clock's.
 const LEG: usize = Section::LEG as usize;
@@ -21,12 +22,15 @@ const BEFORE_CLOCK: usize = RECORD * (Fields::CLOCK - 1) as usize;
 
 // ---- bytes, from an offset on; each function gives the offset behind what it wrote
 
-fn put_byte(out: &mut [u8], at: usize, b: u8) -> usize
-    requires { at + 1 ≤ length out.old }
-    ensures { Writes (b ∷ []) 1 out at result }
+// So many bytes of a tape, as they stand from an offset on. One by one, since a part of no bytes may start past the tape's end, where there is no slice.
+fn put_part(out: &mut [u8], at: usize, tape: &[u8], from: usize, size: usize) -> usize
+    requires { (at + size ≤ length out.old) × (size ≤ length tape.now - from) }
+    ensures { Writes (bytes_at size from tape.now) size out at result }
 {
-    out[at] = b;
-    at + 1
+    for i in 0..size {
+        out[at + i] = tape[from + i];
+    }
+    at + size
 }
 
 // A number of 16 bits.
@@ -34,23 +38,7 @@ fn put_half(out: &mut [u8], at: usize, v: u16) -> usize
     requires { at + 2 ≤ length out.old }
     ensures { Writes (little_endian 2 v) 2 out at result }
 {
-    let low = (v % 256) as u8;
-    let high = (v / 256 % 256) as u8;
-    let end = put_byte(out, at, low);
-    put_byte(out, end, high)
-}
-
-// So many bytes of a tape, as they stand from an offset on.
-fn put_part(out: &mut [u8], at: usize, tape: &[u8], from: usize, size: usize) -> usize
-    requires { (at + size ≤ length out.old) × (size ≤ length tape.now - from) }
-    ensures { Writes (bytes_at size from tape.now) size out at result }
-{
-    let mut i = 0;
-    while i < size {
-        out[at + i] = tape[from + i];
-        i += 1;
-    }
-    at + size
+    put_part(out, at, &v.to_le_bytes(), 0, 2)
 }
 
 // ---- the most that each byte of a message record may be in the form
@@ -77,11 +65,7 @@ fn put_four(rows: &mut [u8], at: usize, used: bool) -> usize
     requires { at + 4 ≤ length rows.old }
     ensures { Writes (four used) 4 rows at result }
 {
-    let b = full(used);
-    let end = put_byte(rows, at, b);
-    let end = put_byte(rows, end, b);
-    let end = put_byte(rows, end, b);
-    put_byte(rows, end, b)
+    put_part(rows, at, &[full(used); 4], 0, 4)
 }
 
 // Kind, side, account, wish or leg.
@@ -92,10 +76,7 @@ fn put_front(rows: &mut [u8], at: usize, kind: u8, u: Uses) -> usize
     let side = full(u.side);
     let account = full(u.account);
     let fourth = full_fourth(kind, u.wishorleg);
-    let end = put_byte(rows, at, 255);
-    let end = put_byte(rows, end, side);
-    let end = put_byte(rows, end, account);
-    put_byte(rows, end, fourth)
+    put_part(rows, at, &[255, side, account, fourth], 0, 4)
 }
 
 // Three numbers.
@@ -135,10 +116,8 @@ fn put_rows(rows: &mut [u8]) -> usize
     ensures { Writes (rows_from 8 1) 288 rows 0 result }
 {
     let mut end = 0;
-    let mut kind = Uses::LEAST_KIND;
-    while kind <= Uses::MOST_KIND {
+    for kind in Uses::LEAST_KIND..=Uses::MOST_KIND {
         end = put_row(rows, end, kind);
-        kind += 1;
     }
     end
 }
@@ -150,10 +129,7 @@ fn row_at(kind: u8) -> usize
     if Uses::MOST_KIND < kind {
         return BEFORE_CLOCK;
     }
-    if kind == 0 {
-        return 0;
-    }
-    (kind - 1) as usize * RECORD
+    usize::from(kind.saturating_sub(1)) * RECORD
 }
 
 // ---- the messages
@@ -171,10 +147,8 @@ fn put_message(
     ensures { Writes (lessers 36 from tape.now row rows.now) 36 out at result }
 {
     let mut bytes = [0u8; RECORD];
-    let mut i = 0;
-    while i < RECORD {
-        bytes[i] = number::lesser_byte(tape[from + i], rows[row + i]);
-        i += 1;
+    for i in 0..RECORD {
+        bytes[i] = tape[from + i].min(rows[row + i]);
     }
     put_part(out, at, &bytes, 0, RECORD)
 }
@@ -192,13 +166,10 @@ fn put_messages(
     ensures { Writes (messages_form (meant_from count (drop from tape.now))) (36 * count) out at result }
 {
     let mut end = at;
-    let mut next = from;
-    let mut left = count;
-    while 0 < left {
+    for i in 0..count {
+        let next = from + i * RECORD;
         let row = row_at(tape[next]);
         end = put_message(out, end, tape, next, rows, row);
-        next += RECORD;
-        left -= 1;
     }
     end
 }
@@ -246,36 +217,16 @@ fn put_form(out: &mut [u8], tape: &[u8], h: Header, rows: &[u8]) -> usize
     put_messages(out, end, tape, next, count, rows)
 }
 
-// What a writer gives: the number that turns the tape or the buffer back, 0 for none, and how many bytes the form has, 0 where it is not written.
-#[repr(C)]
-#[derive(Clone, Copy)]
-pub struct Reply {
-    pub number: u32,
-    pub size: usize,
-}
-
-impl Reply {
-    // "A buffer too short for it".
-    pub const SHORT_BUFFER: u32 = 70;
-}
-
-// "A writer .. that turns every tape the reader accepts into one form": at the start of the buffer, and what stands behind it is as it was; where a number is given, so is every byte.
-pub fn write(tape: &[u8], out: &mut [u8]) -> Reply
+// "A writer .. that turns every tape the reader accepts into one form": at the start of the buffer, and how many bytes it has; what stands behind it is as it was. Or the row that turns the tape or the buffer back, and every byte is as it was.
+pub fn write(tape: &[u8], out: &mut [u8]) -> Result<usize, Refusal>
     ensures { Formed tape out result }
 {
-    let number = tape::refusal(tape);
-    if number != 0 {
-        return Reply { number, size: 0 };
-    }
+    tape::refusal(tape)?;
     let h = tape::header_of(tape);
     if out.len() < form_size(h) {
-        return Reply {
-            number: Reply::SHORT_BUFFER,
-            size: 0,
-        };
+        return Err(Refusal::ShortOutput);
     }
     let mut rows = [0u8; ROWS];
     put_rows(&mut rows);
-    let size = put_form(out, tape, h, &rows);
-    Reply { number: 0, size }
+    Ok(put_form(out, tape, h, &rows))
 }

@@ -16,6 +16,7 @@ use Rattle.rules.specs.State.{Pending, Auction, none, pending, State, with_book,
 use Rattle.rules.specs.Auction.{eligible, auction_of as beginning, existing, ends_by_order, joins, ends_by_legs, units_at, seen, looked}
 use Rattle.rules.specs.Messages.{Local, Terms, Change, local, order, modify, clock}
 use Rattle.rules.specs.Step.{goes_on, begins, joining, ends, Intake, intake, entry_of, modified_entry, with_new, local_in, order_intake, take_in}
+use Rattle.types.specs.declared.Cause.TheVariants as Cause
 use Rattle.types.specs.View.{upto, from}
 use Rattle.types.proofs.TableLaws.{from_cons, from_end}
 use Rattle.state.specs.Layout as L
@@ -25,6 +26,7 @@ use Rattle.state.specs.Stores.{store, stores}
 use Rattle.state.proofs.TableLaws.{from-same}
 use Rattle.state.proofs.StoreLaws.{Rising, rising_read, rising_kept, kept_all, kept_set}
 use Rattle.state.proofs.StateLaws.{auction-alone, pending-flag}
+use Rattle.intake.specs.declared.Act.{Act}
 use Rattle.intake.specs.Acts.{act_of, outside, during, Takes}
 
 and_both : (a b c : Bool) → (a && (b && c)) ≡ (a && b && c)
@@ -138,50 +140,50 @@ nothing_seen longs words b e h =
 -- ---- what is taken in
 
 -- a state and an act
-taking : (s t : State) (r : ℕ) (f : State → Intake) → intake t (act_of r) ≡ f s → Takes s t r f
+taking : (s t : State) (r : Act) (f : State → Intake) → intake t (act_of r) ≡ f s → Takes s t r f
 taking s t r f e = record { state = ap (λ (i : Intake). i.state) e; act = ap (λ (i : Intake). i.act) e }
 
 -- the same intake under another name
-pub takes_as : {s t : State} {r : ℕ} {f : State → Intake} (g : State → Intake) → f s ≡ g s → Takes s t r f → Takes s t r g
+pub takes_as : {s t : State} {r : Act} {f : State → Intake} (g : State → Intake) → f s ≡ g s → Takes s t r f → Takes s t r g
 takes_as g e x = record { state = x.state ∙ ap (λ (i : Intake). i.state) e; act = x.act ∙ ap (λ (i : Intake). i.act) e }
 
 module _ (s t : State) where
   -- an order with no auction pending, where x says whether it is eligible
   module _ (wish x : Bool) (o : Entry) (e : x ≡ (wish && eligible s o)) where
-    pub outside-begins : x ≡ true → t ≡ with_auction (with_new s (with_stage queued o)) (beginning s o s.clock.time) → Takes s t 1 (λ u. outside u wish o)
-    outside-begins h q = taking s t 1 (λ u. outside u wish o) (rw (← e, h) (ap (λ (u : State). intake u begins) q))
+    pub outside-begins : x ≡ true → t ≡ with_auction (with_new s (with_stage queued o)) (beginning s o s.clock.time) → Takes s t Act.Begins (λ u. outside u wish o)
+    outside-begins h q = taking s t Act.Begins (λ u. outside u wish o) (rw (← e, h) (ap (λ (u : State). intake u begins) q))
 
-    pub outside-held : x ≡ false → t ≡ with_new s o → Takes s t 0 (λ u. outside u wish o)
-    outside-held h q = taking s t 0 (λ u. outside u wish o) (rw (← e, h) (ap (λ (u : State). intake u goes_on) q))
+    pub outside-held : x ≡ false → t ≡ with_new s o → Takes s t Act.GoesOn (λ u. outside u wish o)
+    outside-held h q = taking s t Act.GoesOn (λ u. outside u wish o) (rw (← e, h) (ap (λ (u : State). intake u goes_on) q))
 
   -- an order during an auction, where x says whether it ends it, and y whether it joins
   module _ (p : Pending) (wish x : Bool) (o : Entry) (e : x ≡ ends_by_order s p o) where
-    pub during-ends : x ≡ true → t ≡ with_new s o → Takes s t 4 (λ u. during u p wish o)
-    during-ends h q = taking s t 4 (λ u. during u p wish o) (rw (← e, h) (ap (λ (u : State). intake u (ends by_order)) q))
+    pub during-ends : x ≡ true → t ≡ with_new s o → Takes s t (Act.Ends Cause.Order) (λ u. during u p wish o)
+    during-ends h q = taking s t (Act.Ends Cause.Order) (λ u. during u p wish o) (rw (← e, h) (ap (λ (u : State). intake u (ends by_order)) q))
 
     module _ (h : x ≡ false) (y : Bool) (f : y ≡ joins s p wish o) where
-      pub during-joins : y ≡ true → t ≡ with_new s (with_stage queued o) → Takes s t 2 (λ u. during u p wish o)
-      during-joins g q = taking s t 2 (λ u. during u p wish o) (rw (← e, h, ← f, g) (ap (λ (u : State). intake u joining) q))
+      pub during-joins : y ≡ true → t ≡ with_new s (with_stage queued o) → Takes s t Act.Joins (λ u. during u p wish o)
+      during-joins g q = taking s t Act.Joins (λ u. during u p wish o) (rw (← e, h, ← f, g) (ap (λ (u : State). intake u joining) q))
 
-      pub during-held : y ≡ false → t ≡ with_new s o → Takes s t 0 (λ u. during u p wish o)
-      during-held g q = taking s t 0 (λ u. during u p wish o) (rw (← e, h, ← f, g) (ap (λ (u : State). intake u goes_on) q))
+      pub during-held : y ≡ false → t ≡ with_new s o → Takes s t Act.GoesOn (λ u. during u p wish o)
+      during-held g q = taking s t Act.GoesOn (λ u. during u p wish o) (rw (← e, h, ← f, g) (ap (λ (u : State). intake u goes_on) q))
 
   -- a local quote, where x says whether it ends the auction
-  pub local-is : (q : Local) (x : Bool) (r : ℕ) → t ≡ local_in s q → x ≡ ends_by_legs t t.auction → act_of r ≡ pick x (ends by_legs) goes_on → Takes s t r (λ u. take_in u (local q))
+  pub local-is : (q : Local) (x : Bool) (r : Act) → t ≡ local_in s q → x ≡ ends_by_legs t t.auction → act_of r ≡ pick x (ends by_legs) goes_on → Takes s t r (λ u. take_in u (local q))
   unfolding take_in
   local-is q x r e f a =
       taking s t r (λ u. take_in u (local q)) (ap (intake t) (a ∙ ap (λ (b : Bool). pick b (ends by_legs) goes_on) f) ∙ ap (λ (u : State). intake u (pick (ends_by_legs u u.auction) (ends by_legs) goes_on)) e)
 
-  -- a modification, where x says whether there is an entry
-  module _ (c : Change) (x : Bool) (e : Entry) (f : find c.id s.book ≡ pick x (found e) nobody) where
-    pub modify-found : (o : Entry) → x ≡ true → t ≡ with_new (with_book s (without c.id s.book)) o → o ≡ modified_entry c (s.clock.next - 1) e → Takes s t 0 (λ u. take_in u (modify c))
+  -- a modification
+  module _ (c : Change) where
+    pub modify-found : (e o : Entry) → find c.id s.book ≡ found e → t ≡ with_new (with_book s (without c.id s.book)) o → o ≡ modified_entry c (s.clock.next - 1) e → Takes s t Act.GoesOn (λ u. take_in u (modify c))
     unfolding take_in
-    modify-found o h q z =
-        taking s t 0 (λ u. take_in u (modify c)) (rw (f, h) (ap (λ (u : State). intake u goes_on) (q ∙ ap (with_new (with_book s (without c.id s.book))) z)))
+    modify-found e o f q z =
+        taking s t Act.GoesOn (λ u. take_in u (modify c)) (rw f (ap (λ (u : State). intake u goes_on) (q ∙ ap (with_new (with_book s (without c.id s.book))) z)))
 
-    pub modify-none : x ≡ false → t ≡ s → Takes s t 0 (λ u. take_in u (modify c))
+    pub modify-none : find c.id s.book ≡ nobody → t ≡ s → Takes s t Act.GoesOn (λ u. take_in u (modify c))
     unfolding take_in
-    modify-none h q = taking s t 0 (λ u. take_in u (modify c)) (rw (f, h) (ap (λ (u : State). intake u goes_on) q))
+    modify-none f q = taking s t Act.GoesOn (λ u. take_in u (modify c)) (rw f (ap (λ (u : State). intake u goes_on) q))
 
 -- an order, by the auction
 module _ (s : State) (t : Terms) (wish : Bool) where
@@ -194,6 +196,6 @@ module _ (s : State) (t : Terms) (wish : Bool) where
   order-pending p e = sym (ap (λ (a : Auction). order_intake s a t wish) e)
 
 -- a clock, where x says whether the deadline is reached
-pub clock_is : (s : State) (x : Bool) (time r : ℕ) → time ≡ s.clock.time → x ≡ reached s.auction time → act_of r ≡ pick x (ends by_time) goes_on → Takes s s r (λ u. take_in u clock)
+pub clock_is : (s : State) (x : Bool) (time : ℕ) (r : Act) → time ≡ s.clock.time → x ≡ reached s.auction time → act_of r ≡ pick x (ends by_time) goes_on → Takes s s r (λ u. take_in u clock)
 unfolding take_in
 clock_is s x time r z f a = taking s s r (λ u. take_in u clock) (ap (intake s) (a ∙ ap (λ (b : Bool). pick b (ends by_time) goes_on) (f ∙ ap (reached s.auction) z)))

@@ -8,39 +8,26 @@ ghost use Rattle.rules.specs.Auction.{eligible, auction_of as beginning, ends_by
 ghost use Rattle.rules.specs.Messages.{local, national, order, response, modify, cancel, clock, reduce};
 ghost use Rattle.rules.specs.Step.{entry_of as new_entry, modified_entry, after_cancel, take_in, watched};
 ghost use Rattle.types.specs.View.{order_terms, response_terms, change_of, local_of, national_of, body_of, derived_of};
-ghost use Rattle.state.specs.Layout.{Sized, LongsSized, WordsSized};
 ghost use Rattle.state.specs.View.{entry_of, clock_of, state_of};
 ghost use Rattle.state.specs.Lent.{Tells, Becomes};
 ghost use Rattle.intake.specs.Acts.{act_of, outside, during, TakesIn};
 
-use state::{Auction, Clock, Entry, Settings, Stage};
-use types::{Body, Cancel, Derived, Leg, Local, Modify, National, Order, Reduce, Response};
+use state::{Auction, Clock, Entry, Longs, Settings, Stage, Words};
+use types::{Body, Cancel, Cause, Derived, Leg, Local, Modify, National, Order, Reduce, Response};
 
 // What a message does to the auction.
-#[derive(Drop)]
-pub struct Act {}
-
-impl Act {
-    pub const GOES_ON: u8 = 0;
-
-    pub const BEGINS: u8 = 1;
-
-    pub const JOINS: u8 = 2;
-
-    pub const ENDS_BY_TIME: u8 = 3;
-
-    pub const ENDS_BY_ORDER: u8 = 4;
-
-    pub const ENDS_BY_LEGS: u8 = 5;
-
-    pub const ENDS_BY_CANCEL: u8 = 6;
+#[derive(Clone, Copy)]
+pub enum Act {
+    GoesOn,
+    Begins,
+    Joins,
+    Ends(Cause),
 }
 
 // ---- eligibility and ends
 
 // "its units reach the class minimum, the strategy has at most the class's leg count".
-fn meets_class(words: &[u32], units: u32) -> bool
-    requires { WordsSized words.now }
+fn meets_class(words: &Words, units: u32) -> bool
     ensures { Tells words (λ s. result ≡ (leb s.strategy.settings.minimum units && leb (length s.strategy.legs) s.strategy.settings.most_legs)) }
 {
     let legs = state::leg_count(words) as u32;
@@ -48,22 +35,20 @@ fn meets_class(words: &[u32], units: u32) -> bool
 }
 
 // "It is eligible if ..".
-fn is_eligible(words: &[u32], buy: bool, price: u32, units: u32) -> bool
-    requires { WordsSized words.now }
+fn is_eligible(words: &Words, buy: bool, price: u32, units: u32) -> bool
     ensures { Tells words (λ s. (o : Open) → o.buy ≡ buy → o.price ≡ price → o.units ≡ units → result ≡ eligible s o) }
 {
     let distance = words[Settings::DISTANCE];
     let class = meets_class(words, units);
     let d = quotes::derived(words, buy);
-    let far = price::is_beyond(!buy, number::wide(distance), price as u64, d.price);
+    let far = price::is_beyond(!buy, u64::from(distance), price as u64, d.price);
     let front = book::in_front(words, buy, price);
     let live = book::near_live(words, buy, price, distance);
     class & front & (((0 < d.units) & !far) | live)
 }
 
 // "asking and eligible".
-fn asks(words: &[u32], wish: bool, buy: bool, price: u32, units: u32) -> bool
-    requires { WordsSized words.now }
+fn asks(words: &Words, wish: bool, buy: bool, price: u32, units: u32) -> bool
     ensures { Tells words (λ s. (o : Open) → o.buy ≡ buy → o.price ≡ price → o.units ≡ units → result ≡ (wish && eligible s o)) }
 {
     if wish {
@@ -73,18 +58,16 @@ fn asks(words: &[u32], wish: bool, buy: bool, price: u32, units: u32) -> bool
 }
 
 // "Same side, better than the initiator's limit".
-fn ends_by_order(words: &[u32], buy: bool, price: u32) -> bool
-    requires { WordsSized words.now }
+fn ends_by_order(words: &Words, buy: bool, price: u32) -> bool
     ensures { Tells words (λ s. (p : Pending) (o : Open) → s.auction ≡ pending p → o.buy ≡ buy → o.price ≡ price → result ≡ ends_by_order s p o) }
 {
     let side = state::is_set(words[Auction::BUY]);
-    let better = book::beats(words, side, number::wide(price));
+    let better = book::beats(words, side, u64::from(price));
     book::same_side(side, buy) & better
 }
 
 // "Same side, equal or worse, asking and eligible".
-fn is_joining(words: &[u32], wish: bool, buy: bool, price: u32, units: u32) -> bool
-    requires { WordsSized words.now }
+fn is_joining(words: &Words, wish: bool, buy: bool, price: u32, units: u32) -> bool
     ensures { Tells words (λ s. (p : Pending) (o : Open) → s.auction ≡ pending p → o.buy ≡ buy → o.price ≡ price → o.units ≡ units → result ≡ joins s p wish o) }
 {
     let side = state::is_set(words[Auction::BUY]);
@@ -94,8 +77,7 @@ fn is_joining(words: &[u32], wish: bool, buy: bool, price: u32, units: u32) -> b
 }
 
 // "A local quote after which the derived price on the initiator's own side is strictly better than its limit".
-fn ends_by_legs(words: &[u32]) -> bool
-    requires { WordsSized words.now }
+fn ends_by_legs(words: &Words) -> bool
     ensures { Tells words (λ s. result ≡ ends_by_legs s s.auction) }
 {
     if state::is_pending(words) {
@@ -110,11 +92,10 @@ fn ends_by_legs(words: &[u32]) -> bool
 // ---- entries
 
 // The number that a message took: one below the next.
-fn number_of(longs: &[u64]) -> u64
-    requires { LongsSized longs.now }
+fn number_of(longs: &Longs) -> u64
     ensures { result ≡ (clock_of longs.now).next - 1 }
 {
-    number::one_below(longs[Clock::NEXT])
+    longs[Clock::NEXT].saturating_sub(1)
 }
 
 // A new order, "held".
@@ -133,7 +114,7 @@ fn new_order(o: Order, number: u64) -> Entry
     }
 }
 
-// A new response.
+// A new response. Orders and responses are two structs, and one function of their fields would take all eight.
 fn new_response(t: Response, number: u64) -> Entry
     ensures { entry_of result ≡ new_entry (response_terms t) number answer }
 {
@@ -169,65 +150,62 @@ fn modified_entry(t: Modify, number: u64, e: Entry) -> Entry
 fn in_queue(e: Entry) -> Entry
     ensures { entry_of result ≡ with_stage queued (entry_of e) }
 {
-    let mut r = e;
-    r.stage = Stage::QUEUED;
-    r
+    Entry {
+        stage: Stage::QUEUED,
+        ..e
+    }
 }
 
 // ---- orders
 
 // The auction of an order of that side: "begins one, ending at its time plus the interval"; the derived contra price is kept where there is one.
-fn begin(longs: &mut [u64], words: &mut [u32], buy: bool)
-    requires { Sized longs.old words.old }
+fn begin(longs: &mut Longs, words: &mut Words, buy: bool)
     ensures { (o : Open) → o.buy ≡ buy → Becomes longs words (λ s. with_auction s (beginning s o s.clock.time)) }
 {
     let d = quotes::derived(words, buy);
-    let time = number::lesser_long(longs[Clock::TIME], Clock::MOST_TIME);
+    let time = longs[Clock::TIME].min(Clock::MOST_TIME);
     let interval = words[Settings::INTERVAL];
-    longs[Auction::DEADLINE] = time + number::wide(interval);
+    longs[Auction::DEADLINE] = time + u64::from(interval);
     longs[Auction::START_PRICES] = d.price;
-    longs[Auction::START_COUNT] = number::wide(state::word_of(0 < d.units));
+    longs[Auction::START_COUNT] = u64::from(state::word_of(0 < d.units));
     words[Auction::PENDING] = 1;
     words[Auction::BUY] = state::word_of(buy);
     words[Auction::START_UNITS] = d.units;
 }
 
 // An order with no auction pending.
-fn order_outside(longs: &mut [u64], words: &mut [u32], wish: bool, e: Entry) -> u8
-    requires { Sized longs.old words.old }
+fn order_outside(longs: &mut Longs, words: &mut Words, wish: bool, e: Entry) -> Act
     ensures { TakesIn longs words result (λ s. outside s wish (entry_of e)) }
 {
     let buy = state::is_set(e.buy);
     if asks(words, wish, buy, e.price, e.units) {
         book::append(longs, words, in_queue(e));
         begin(longs, words, buy);
-        return Act::BEGINS;
+        return Act::Begins;
     }
     book::append(longs, words, e);
-    Act::GOES_ON
+    Act::GoesOn
 }
 
 // An order during an auction.
-fn order_during(longs: &mut [u64], words: &mut [u32], wish: bool, e: Entry) -> u8
-    requires { Sized longs.old words.old }
+fn order_during(longs: &mut Longs, words: &mut Words, wish: bool, e: Entry) -> Act
     ensures { (p : Pending) → (state_of longs.old words.old).auction ≡ pending p → TakesIn longs words result (λ s. during s p wish (entry_of e)) }
 {
     let buy = state::is_set(e.buy);
     if ends_by_order(words, buy, e.price) {
         book::append(longs, words, e);
-        return Act::ENDS_BY_ORDER;
+        return Act::Ends(Cause::Order);
     }
     if is_joining(words, wish, buy, e.price, e.units) {
         book::append(longs, words, in_queue(e));
-        return Act::JOINS;
+        return Act::Joins;
     }
     book::append(longs, words, e);
-    Act::GOES_ON
+    Act::GoesOn
 }
 
 // "A new order is held"; the three sentences on orders during an auction.
-fn order_in(longs: &mut [u64], words: &mut [u32], o: Order) -> u8
-    requires { Sized longs.old words.old }
+fn order_in(longs: &mut Longs, words: &mut Words, o: Order) -> Act
     ensures { TakesIn longs words result (λ s. take_in s (order (order_terms o) o.wish)) }
 {
     let e = new_order(o, number_of(longs));
@@ -240,63 +218,56 @@ fn order_in(longs: &mut [u64], words: &mut [u32], o: Order) -> u8
 // ---- the other kinds
 
 // A local quote, and the test of the early end after it.
-fn local_in(longs: &mut [u64], words: &mut [u32], q: Local) -> u8
-    requires { Sized longs.old words.old }
+fn local_in(longs: &mut Longs, words: &mut Words, q: Local) -> Act
     ensures { TakesIn longs words result (λ s. take_in s (local (local_of q))) }
 {
     quotes::put_local(words, q);
     if ends_by_legs(words) {
-        return Act::ENDS_BY_LEGS;
+        return Act::Ends(Cause::Legs);
     }
-    Act::GOES_ON
+    Act::GoesOn
 }
 
 // A national quote.
-fn national_in(longs: &mut [u64], words: &mut [u32], q: National) -> u8
-    requires { Sized longs.old words.old }
+fn national_in(longs: &mut Longs, words: &mut Words, q: National) -> Act
     ensures { TakesIn longs words result (λ s. take_in s (national (national_of q))) }
 {
     quotes::put_national(words, q);
-    Act::GOES_ON
+    Act::GoesOn
 }
 
 // A response.
-fn response_in(longs: &mut [u64], words: &mut [u32], t: Response) -> u8
-    requires { Sized longs.old words.old }
+fn response_in(longs: &mut Longs, words: &mut Words, t: Response) -> Act
     ensures { TakesIn longs words result (λ s. take_in s (response (response_terms t))) }
 {
     let e = new_response(t, number_of(longs));
     book::append(longs, words, e);
-    Act::GOES_ON
+    Act::GoesOn
 }
 
 // A modification of a response.
-fn modify_in(longs: &mut [u64], words: &mut [u32], t: Modify) -> u8
-    requires { Sized longs.old words.old }
+fn modify_in(longs: &mut Longs, words: &mut Words, t: Modify) -> Act
     ensures { TakesIn longs words result (λ s. take_in s (modify (change_of t))) }
 {
     let number = number_of(longs);
-    let f = book::take_out(longs, words, t.id);
-    if f.there {
-        book::append(longs, words, modified_entry(t, number, f.entry));
+    if let Some(e) = book::take_out(longs, words, t.id) {
+        book::append(longs, words, modified_entry(t, number, e));
     }
-    Act::GOES_ON
+    Act::GoesOn
 }
 
 // M-105: "If none is left, the auction ends".
-fn after_cancel(words: &[u32]) -> u8
-    requires { WordsSized words.now }
+fn after_cancel(words: &Words) -> Act
     ensures { Tells words (λ s. act_of result ≡ after_cancel s) }
 {
     if state::is_pending(words) & !book::any_queued(words) {
-        return Act::ENDS_BY_CANCEL;
+        return Act::Ends(Cause::Cancel);
     }
-    Act::GOES_ON
+    Act::GoesOn
 }
 
 // A cancel, and what it does to the auction.
-fn cancel_in(longs: &mut [u64], words: &mut [u32], t: Cancel) -> u8
-    requires { Sized longs.old words.old }
+fn cancel_in(longs: &mut Longs, words: &mut Words, t: Cancel) -> Act
     ensures { TakesIn longs words result (λ s. take_in s (cancel t.id t.participant)) }
 {
     book::remove(longs, words, t.id);
@@ -304,29 +275,26 @@ fn cancel_in(longs: &mut [u64], words: &mut [u32], t: Cancel) -> u8
 }
 
 // M-105: a reduce to "the new open units".
-fn reduce_in(longs: &mut [u64], words: &mut [u32], t: Reduce) -> u8
-    requires { Sized longs.old words.old }
+fn reduce_in(longs: &mut Longs, words: &mut Words, t: Reduce) -> Act
     ensures { TakesIn longs words result (λ s. take_in s (reduce t.id t.participant t.units)) }
 {
     book::reduce(words, t.id, t.units);
-    Act::GOES_ON
+    Act::GoesOn
 }
 
 // "A clock message at or after the deadline ends it"; the state has taken its time.
-fn clock_in(longs: &mut [u64], words: &mut [u32]) -> u8
-    requires { Sized longs.old words.old }
+fn clock_in(longs: &mut Longs, words: &mut Words) -> Act
     ensures { TakesIn longs words result (λ s. take_in s clock) }
 {
-    let time = number::lesser_long(longs[Clock::TIME], Clock::MOST_TIME);
+    let time = longs[Clock::TIME].min(Clock::MOST_TIME);
     if refusals::is_reached(longs, words, time) {
-        return Act::ENDS_BY_TIME;
+        return Act::Ends(Cause::Time);
     }
-    Act::GOES_ON
+    Act::GoesOn
 }
 
 // A message taken in; the state has taken its number and time.
-pub fn take_in(longs: &mut [u64], words: &mut [u32], b: Body) -> u8
-    requires { Sized longs.old words.old }
+pub fn take_in(longs: &mut Longs, words: &mut Words, b: Body) -> Act
     ensures { TakesIn longs words result (λ s. take_in s (body_of b)) }
 {
     match b {
@@ -350,12 +318,11 @@ fn least_shown(kept: u32, price: u64, d: Derived) -> u32
     if d.price != price {
         return 0;
     }
-    number::lesser(kept, d.units)
+    kept.min(d.units)
 }
 
 // One more look at the legs while an auction is pending; 0 units stay 0.
-fn look(longs: &mut [u64], words: &mut [u32])
-    requires { Sized longs.old words.old }
+fn look(longs: &mut Longs, words: &mut Words)
     ensures { Becomes longs words (λ s. with_auction s (looked s.auction (contra_prices s))) }
 {
     let kept = words[Auction::START_UNITS];
@@ -366,18 +333,10 @@ fn look(longs: &mut [u64], words: &mut [u32])
 }
 
 // M-103: what is kept of the legs, after a message taken in; after any but a local quote they show what they showed.
-pub fn watch(longs: &mut [u64], words: &mut [u32], b: Body)
-    requires { Sized longs.old words.old }
+pub fn watch(longs: &mut Longs, words: &mut Words, b: Body)
     ensures { Becomes longs words (watched (body_of b)) }
 {
-    match b {
-        Body::Local(q) => look(longs, words),
-        Body::National(q) => {}
-        Body::Order(o) => {}
-        Body::Response(t) => {}
-        Body::Modify(t) => {}
-        Body::Cancel(t) => {}
-        Body::Clock => {}
-        Body::Reduce(t) => {}
+    if let Body::Local(_) = b {
+        look(longs, words);
     }
 }

@@ -9,9 +9,11 @@ use native.Mathlib.Omega.{arith}
 use lib.Dec.{eqb, leb}
 use lib.ListN.{length, get_or}
 use lib.Pow.{shr-shr, shr_le}
+use Rattle.std.specs.List.{CopiedTo, SameFrom}
 use Rattle.types.specs.View.{upto}
 use Rattle.types.proofs.TableLaws.{from_cons, from_end}
-use Rattle.legprices.specs.Sums.{Span, reach, span_at, spans_from, Spanned, table_words, stands, table_at, Made}
+use Rattle.legprices.specs.declared.Ranges.{Ranges}
+use Rattle.legprices.specs.Sums.{Span, reach, span_at, spans_from, Bounded, table_words, stands, table_at, Made}
 use Rattle.legprices.specs.Tables.{bit, Changed, moved, smeared, Shows}
 use Rattle.legprices.specs.Found.{greatest}
 use Rattle.legprices.proofs.SumLaws.{smear-none, smear-more, smear_same, reach_above}
@@ -53,6 +55,17 @@ module _ (words b : ℕ) (old : List ℕ) (r : ℕ) where
     above = λ i j. q.above i j ∙ p.above i j;
   }
 
+-- the second table copied to the first
+pub changed_copied : (old new : List ℕ) → length new ≡ 44 → CopiedTo old new table_words 0 table_words → SameFrom old new table_words → Changed table_words 0 old new (stands old table_words)
+changed_copied old new h c f = record {
+  sized = h;
+  inside = λ s l.
+      let z : 0 + s / 64 - 0 ≡ s / 64 = omega arith in
+      ap (λ (x : ℕ). bit x (s % 64)) (rw z at (c (0 + s / 64) 0 (omega arith) (omega arith)));
+  below = λ i l. absurd (omega arith);
+  above = λ i l. f i 0 (omega arith);
+}
+
 -- ---- a table of the sums that legs can make
 
 shows_none : (b : ℕ) (old new : List ℕ) → Changed table_words b old new (λ s. eqb s 0) → Shows new b []
@@ -72,68 +85,70 @@ shows_more words b old new g gs l m shows c s j =
 
 -- ---- legs in arrays
 
-module _ (ratios widths : List ℕ) where
-  pub spans-none : (i n : ℕ) → n ≤ i → spans_from ratios widths i n ≡ []
-  spans-none i n h = from_end (span_at ratios widths) i n h
+module _ (r : Ranges) where
+  pub spans-none : (i : ℕ) → r.count ≤ i → spans_from r i ≡ []
+  spans-none i h = from_end (span_at r) i r.count h
 
-  spans-more : (i j n : ℕ) → i < n → j ≡ i + 1 → spans_from ratios widths i n ≡ span_at ratios widths i ∷ spans_from ratios widths j n
-  spans-more i j n h e = from_cons (span_at ratios widths) i n h ∙ ap (λ (k : ℕ). span_at ratios widths i ∷ spans_from ratios widths k n) (sym e)
+  spans-more : (i j : ℕ) → i < r.count → j ≡ i + 1 → spans_from r i ≡ span_at r i ∷ spans_from r j
+  spans-more i j h e = from_cons (span_at r) i r.count h ∙ ap (λ (k : ℕ). span_at r i ∷ spans_from r k) (sym e)
 
-  pub spans-last : (i n : ℕ) → i + 1 ≡ n → spans_from ratios widths i n ≡ span_at ratios widths i ∷ []
-  spans-last i n e = spans-more i n n (omega arith) (sym e) ∙ ap (λ (gs : List Span). span_at ratios widths i ∷ gs) (spans-none n n (omega arith))
+  pub spans-last : (i : ℕ) → i + 1 ≡ r.count → spans_from r i ≡ span_at r i ∷ []
+  spans-last i e = spans-more i r.count (omega arith) (sym e) ∙ ap (λ (gs : List Span). span_at r i ∷ gs) (spans-none r.count (omega arith))
 
-  module _ (n : ℕ) (spanned : Spanned ratios widths n) where
-    pub span-most : (k : ℕ) → get_or ratios k 0 * get_or widths k 0 ≤ 450
-    span-most k = mul-le-mul (spanned.ratio k) (spanned.width k)
+  module _ (bounded : Bounded r) where
+    pub span-most : (k : ℕ) → get_or r.ratios k 0 * get_or r.widths k 0 ≤ 450
+    span-most k = mul-le-mul (bounded.ratio k) (bounded.width k)
 
-    upto-most : (k m : ℕ) → greatest (upto (span_at ratios widths) k m) ≤ m * 450
+    upto-most : (k m : ℕ) → greatest (upto (span_at r) k m) ≤ m * 450
     unfolding upto
     upto-most k zero = omega arith
     upto-most k (suc m) = omega (arith, span-most k, upto-most (k + 1) m)
 
-    pub spans-most : (i : ℕ) → greatest (spans_from ratios widths i n) ≤ (n - i) * 450
-    spans-most i = upto-most i (n - i)
+    pub spans-most : (i : ℕ) → greatest (spans_from r i) ≤ (r.count - i) * 450
+    spans-most i = upto-most i (r.count - i)
 
     -- one leg more, before those from place j on
-    shows-next : (words b i j : ℕ) (old new : List ℕ) → words ≤ table_words → (n - i) * 450 < words * 64 → i < n → j ≡ i + 1
-        → Shows old b (spans_from ratios widths j n) → Changed words b old new (smeared (stands old b) (get_or ratios i 0) (get_or widths i 0)) → Shows new b (spans_from ratios widths i n)
+    shows-next : (words b i j : ℕ) (old new : List ℕ) → words ≤ table_words → (r.count - i) * 450 < words * 64 → i < r.count → j ≡ i + 1
+        → Shows old b (spans_from r j) → Changed words b old new (smeared (stands old b) (get_or r.ratios i 0) (get_or r.widths i 0)) → Shows new b (spans_from r i)
     shows-next words b i j old new l m h e shows c =
-        let z = spans-more i j n h e in
+        let z = spans-more i j h e in
         subst (λ (gs : List Span). Shows new b gs) (sym z)
-        (shows_more words b old new (span_at ratios widths i) (spans_from ratios widths j n) l (omega (arith, ap greatest z, spans-most i)) shows c)
+        (shows_more words b old new (span_at r i) (spans_from r j) l (omega (arith, ap greatest z, spans-most i)) shows c)
 
     -- the last two legs
-    pub shows-pair : (b : ℕ) (old none one new : List ℕ) → 3 ≤ n → b ≡ (n - 3) * 22 → Changed table_words b old none (λ s. eqb s 0)
-        → Changed 8 b none one (smeared (stands none b) (get_or ratios (n - 1) 0) (get_or widths (n - 1) 0))
-        → Changed 15 b one new (smeared (stands one b) (get_or ratios (n - 2) 0) (get_or widths (n - 2) 0))
-        → Shows new (table_at (n - 2)) (spans_from ratios widths (n - 2) n)
+    pub shows-pair : (b : ℕ) (old none one new : List ℕ) → 3 ≤ r.count → b ≡ (r.count - 3) * 22 → Changed table_words b old none (λ s. eqb s 0)
+        → Changed 8 b none one (smeared (stands none b) (get_or r.ratios (r.count - 1) 0) (get_or r.widths (r.count - 1) 0))
+        → Changed 15 b one new (smeared (stands one b) (get_or r.ratios (r.count - 2) 0) (get_or r.widths (r.count - 2) 0))
+        → Shows new (table_at (r.count - 2)) (spans_from r (r.count - 2))
     shows-pair b old none one new h e c d f =
+        let n : ℕ = r.count in
         let z : b ≡ table_at (n - 2) = omega arith in
-        let s : Shows none b (spans_from ratios widths n n) = subst (λ (gs : List Span). Shows none b gs) (sym (spans-none n n (omega arith))) (shows_none b old none c) in
-        subst (λ (x : ℕ). Shows new x (spans_from ratios widths (n - 2) n)) z
+        let s : Shows none b (spans_from r n) = subst (λ (gs : List Span). Shows none b gs) (sym (spans-none n (omega arith))) (shows_none b old none c) in
+        subst (λ (x : ℕ). Shows new x (spans_from r (n - 2))) z
         (shows-next 15 b (n - 2) (n - 1) one new (omega arith) (omega arith) (omega arith) (omega arith)
         (shows-next 8 b (n - 1) n none one (omega arith) (omega arith) (omega arith) (omega arith) s d) f)
 
-    pub made : (bits : List ℕ) → length bits ≡ 44 → (3 ≤ n → Shows bits (table_at (n - 2)) (spans_from ratios widths (n - 2) n))
-        → (n ≡ 4 → Shows bits 0 (spans_from ratios widths 1 n)) → Made ratios widths n bits
+    pub made : (bits : List ℕ) → length bits ≡ 44 → (3 ≤ r.count → Shows bits (table_at (r.count - 2)) (spans_from r (r.count - 2)))
+        → (r.count ≡ 4 → Shows bits 0 (spans_from r 1)) → Made r bits
     made bits l pair three = record {
       sized = l;
       shown = λ i j m s k.
-          elim (ℕ_discrete i (n - 2)) [
+          elim (ℕ_discrete i (r.count - 2)) [
             | yes e ↦ rw e (pair (omega arith) s k)
-            | no x ↦ let e : i ≡ 1 = omega (arith, spanned.few) in rw e (three (omega (arith, spanned.few)) s k)
+            | no x ↦ let e : i ≡ 1 = omega (arith, bounded.few) in rw e (three (omega (arith, bounded.few)) s k)
           ];
     }
 
     -- the last three legs, in the first table, before the last two
-    pub made-three : (old first new : List ℕ) → n ≡ 4 → Shows old (table_at (n - 2)) (spans_from ratios widths (n - 2) n) → Changed table_words 0 old first (stands old table_words)
-        → Changed table_words 0 first new (smeared (stands first 0) (get_or ratios 1 0) (get_or widths 1 0)) → Made ratios widths n new
+    pub made-three : (old first new : List ℕ) → r.count ≡ 4 → Shows old (table_at (r.count - 2)) (spans_from r (r.count - 2)) → Changed table_words 0 old first (stands old table_words)
+        → Changed table_words 0 first new (smeared (stands first 0) (get_or r.ratios 1 0) (get_or r.widths 1 0)) → Made r new
     made-three old first new h shows c d =
+        let n : ℕ = r.count in
         let z : table_at (n - 2) ≡ table_words = omega arith in
-        let pair : Shows old table_words (spans_from ratios widths (n - 2) n) = subst (λ (x : ℕ). Shows old x (spans_from ratios widths (n - 2) n)) z shows in
-        let kept : Shows new table_words (spans_from ratios widths (n - 2) n) =
+        let pair : Shows old table_words (spans_from r (n - 2)) = subst (λ (x : ℕ). Shows old x (spans_from r (n - 2))) z shows in
+        let kept : Shows new table_words (spans_from r (n - 2)) =
         λ s j. ap (λ (x : ℕ). bit x (s % 64)) (d.above (table_words + s / 64) (omega arith) ∙ c.above (table_words + s / 64) (omega arith)) ∙ pair s j in
-        let copied : Shows first 0 (spans_from ratios widths (n - 2) n) = λ s j. c.inside s j ∙ pair s j in
+        let copied : Shows first 0 (spans_from r (n - 2)) = λ s j. c.inside s j ∙ pair s j in
         made new d.sized
-        (λ k. subst (λ (x : ℕ). Shows new x (spans_from ratios widths (n - 2) n)) (sym z) kept)
+        (λ k. subst (λ (x : ℕ). Shows new x (spans_from r (n - 2))) (sym z) kept)
         (λ k. shows-next table_words 0 1 (n - 2) first new (omega arith) (omega arith) (omega arith) (omega arith) copied d)

@@ -2,151 +2,62 @@
 use mathlib.Core.Path.{◌≡◌, refl, ap, ap₂, sym, ◌∙◌}
 use mathlib.Core.Bool.{Bool, true, false, true≢false}
 use mathlib.Core.List.{List, [], ◌∷◌, ◌++◌, append-nil}
-use Prim.Native.Nat.{ℕ, zero, suc, ◌+◌, ◌-◌, ◌*◌, ◌/◌, ◌≤◌, ◌<◌, min}
+use Prim.Native.Nat.{ℕ, ◌+◌, ◌-◌, ◌*◌, ◌/◌, ◌≤◌, ◌<◌, min}
 use native.Mathlib.Decide.{dec_lt, dec_le}
 use native.Mathlib.Omega.{arith}
 use borrow.Author.Tests.{lt-ltb}
 use lib.ListN.{length, get_or}
 use lib.Seq.{append_snoc}
+use Rattle.std.specs.Prelude.{None, Some}
+use Rattle.std.specs.Option.{unwrap_or}
 use Rattle.rules.specs.Strategy.{Leg}
-use Rattle.rules.specs.Prices.{most_cents, biased, Quote, lower}
+use Rattle.rules.specs.Prices.{biased, Quote, lower}
 use Rattle.rules.specs.Turn.{Contra, legs, entry, Fill}
-use Rattle.rules.specs.LegPrices.{LegPrices, priced, ranges_of, search, leg_prices, prices_taken, leg_prices_of, quotes_after, booked}
+use Rattle.rules.specs.LegPrices.{LegPrices, priced, ranges_of, leg_prices, prices_taken, leg_prices_of, quotes_after, booked}
 use Rattle.types.specs.View.{from}
 use Rattle.types.proofs.TableLaws.{from_cons, from_end}
 use Rattle.state.proofs.TableLaws.{from-same, from-join}
-use Rattle.state.specs.View.{leg_count, legs_of, market_of}
+use Rattle.state.specs.View.{legs_of, market_of}
 use Rattle.quotes.specs.Uses.{most_word}
 use Rattle.records.specs.Records.{most_given, width, record_from, record_in, record_at, prices_from, prices_in, is_legs, Prices}
 use Rattle.records.proofs.RecordLaws.{price_known}
 use Rattle.legprices.specs.declared.Pass.{Pass}
-use Rattle.legprices.specs.Sums.{Spanned, Made}
-use Rattle.legprices.specs.Ranges.{ranges_in}
-use Rattle.legprices.specs.Quoted.{Ranged}
+use Rattle.legprices.specs.declared.Room.{Room}
 use Rattle.legprices.specs.Books.{IsBooked}
-use Rattle.legprices.specs.Going.{quotes_at, ranges_at, Holding, Found, Passed}
+use Rattle.legprices.specs.Going.{quotes_at, ranges_at, Held, FoundIn, Passed}
 use Rattle.legprices.proofs.QuotedLaws.{quotes_after_lem}
 
--- where a pass stands after a search, and after one that was not needed
-abbrev pub searched : Pass → Bool → ℕ → ℕ → Pass
-searched p near price count = record { lowered = p.lowered; taken = p.taken; fresh = true; near = near; price = price; count = count }
-
--- and after a record of the legs
+-- where a pass stands after a record of the legs
 abbrev pub lessened : ℕ → Pass
-lessened taken = record { lowered = true; taken = taken; fresh = false; near = false; price = 0; count = 0 }
+lessened taken = record { taken = Some taken; fresh = false; price = 0; count = 0 }
 
 -- ---- nothing done yet
 
 abbrev pub begun : Pass
-begun = record { lowered = false; taken = 0; fresh = false; near = false; price = 0; count = 0 }
+begun = record { taken = None; fresh = false; price = 0; count = 0 }
 
-abbrev pub zeros : List ℕ
-zeros = 0 ∷ 0 ∷ 0 ∷ 0 ∷ []
-
-zeros_are : (k : ℕ) → get_or zeros k 0 ≡ 0
-zeros_are zero = refl
-zeros_are (suc zero) = refl
-zeros_are (suc (suc zero)) = refl
-zeros_are (suc (suc (suc zero))) = refl
-zeros_are (suc (suc (suc (suc k)))) = refl
-
-pub held_none : (w : List ℕ) (buy : Bool) (bits : List ℕ) → length bits ≡ 44 → Holding w buy begun zeros zeros zeros zeros bits zeros
-held_none w buy bits z =
+pub held_none : (w : List ℕ) (buy : Bool) (r : Room) → length r.bits ≡ 44 → length r.prices ≡ 4 → Held w buy begun r
+held_none w buy r b z =
     record {
-      plus_sized = refl;
-      bids_sized = refl;
-      bits_sized = z;
-      prices_sized = refl;
-      spanned = record { few = omega arith; ratios_sized = refl; widths_sized = refl; ratio = λ k. omega (arith, zeros_are k); width = λ k. omega (arith, zeros_are k) };
-      untaken = λ x. refl;
+      bits_sized = b;
+      prices_sized = z;
+      known = λ x. absurd (true≢false (sym x));
       made = λ x. absurd (true≢false (sym x));
-      some = λ x. absurd (true≢false (sym x));
-      none = λ x. absurd (true≢false (sym x));
       last = λ x. absurd (true≢false (sym x));
     }
-
--- ---- one price
-
--- with the count of legs as it was read
-module _ (n k : ℕ) (e : n ≡ k) (ratios widths : List ℕ) where
-  pub spanned-at : Spanned ratios widths k → Spanned ratios widths n
-  spanned-at s = rw e s
-
-  pub made_of : (bits : List ℕ) → Made ratios widths n bits → Made ratios widths k bits
-  made_of bits m = rw (sym e) m
-
-  pub made_at : (bits : List ℕ) → Made ratios widths k bits → Made ratios widths n bits
-  made_at bits m = rw e m
-
-module _ (w : List ℕ) (buy : Bool) (p : Pass) (price : ℕ) (plus ratios bids widths bits prices : List ℕ) where
-  pub found-new : (count : ℕ) → (p.lowered ≡ false → p.taken ≡ 0) → length prices ≡ 4 → length plus ≡ 4 → length bids ≡ 4 → Spanned ratios widths (leg_count w) → Made ratios widths (leg_count w) bits
-      → ((c : ℕ) → search (ranges_in plus ratios bids widths (leg_count w)) most_cents c ≡ leg_prices (ranges_at w buy p) c)
-      → (n : ℕ) → n ≡ leg_count w → prices_from count prices ≡ search (ranges_in plus ratios bids widths n) most_cents price
-      → Found w buy p price (searched p true price count) plus ratios bids widths bits prices
-  found-new count u z a b s m f n k q =
-      let e : prices_from count prices ≡ search (ranges_in plus ratios bids widths (leg_count w)) most_cents price = rw (sym k) q in
-      record {
-        held = record {
-          plus_sized = a;
-          bids_sized = b;
-          bits_sized = m.sized;
-          prices_sized = z;
-          spanned = s;
-          untaken = u;
-          made = λ x y. m;
-          some = λ x y. f;
-          none = λ x y. absurd (true≢false y);
-          last = λ x. e ∙ f price;
-        };
-        same = refl;
-        found = e ∙ f price;
-      }
-
-  -- a leg is not near
-  pub found_none : (p.lowered ≡ false → p.taken ≡ 0) → length prices ≡ 4 → length bits ≡ 44 → (near : Bool) → near ≡ false → Ranged w buy p.lowered p.taken near plus ratios bids widths
-      → Found w buy p price (searched p false price 0) plus ratios bids widths bits prices
-  found_none u z t near f g =
-      record {
-        held = record {
-          plus_sized = g.plus_sized;
-          bids_sized = g.bids_sized;
-          bits_sized = t;
-          prices_sized = z;
-          spanned = g.spanned;
-          untaken = u;
-          made = λ x y. absurd (true≢false (sym y));
-          some = λ x y. absurd (true≢false (sym y));
-          none = λ x y. g.none f;
-          last = λ x. g.none f price;
-        };
-        same = refl;
-        found = g.none f price;
-      }
-
-  module _ (v : Holding w buy p plus ratios bids widths bits prices) (x : p.fresh ≡ true) where
-    pub found-last : p.price ≡ price → Found w buy p price p plus ratios bids widths bits prices
-    found-last e = record { held = v; same = refl; found = v.last x ∙ ap (leg_prices (ranges_at w buy p)) e }
-
-    pub found-far : p.near ≡ false → Found w buy p price p plus ratios bids widths bits prices
-    found-far n = record { held = v; same = refl; found = v.last x ∙ sym (v.none x n p.price) ∙ v.none x n price }
 
 -- ---- one record
 
 pub price_most : (l : List ℕ) (j price : ℕ) → price ≡ biased (record_at l j).price → price ≤ most_given
 price_most l j price e = omega (arith, price_known l j)
 
-pub held_legs_lem : (w : List ℕ) (buy : Bool) (p : Pass) (plus ratios bids widths bits prices new : List ℕ) (t : ℕ) → Holding w buy p plus ratios bids widths bits prices → length new ≡ 4 → Holding w buy (lessened t) plus ratios bids widths bits new
-held_legs_lem w buy p plus ratios bids widths bits prices new t v z =
+pub held_legs_lem : (w : List ℕ) (buy : Bool) (r : Room) (t : ℕ) → length r.bits ≡ 44 → length r.prices ≡ 4 → Held w buy (lessened t) r
+held_legs_lem w buy r t b z =
     record {
-      plus_sized = v.plus_sized;
-      bids_sized = v.bids_sized;
-      bits_sized = v.bits_sized;
+      bits_sized = b;
       prices_sized = z;
-      spanned = v.spanned;
-      untaken = λ x. absurd (true≢false x);
+      known = λ x. absurd (true≢false (sym x));
       made = λ x. absurd (true≢false (sym x));
-      some = λ x. absurd (true≢false (sym x));
-      none = λ x. absurd (true≢false (sym x));
       last = λ x. absurd (true≢false (sym x));
     }
 
@@ -163,23 +74,23 @@ prices_are : (old new : List ℕ) (j : ℕ) (a b : LegPrices) → a ≡ b → Pr
 prices_are old new j a b e g = record { sized = g.sized; before = g.before; behind = g.behind; made = λ h. g.made h ∙ e }
 
 module _ (w : List ℕ) (buy : Bool) (p : Pass) (old new : List ℕ) (j : ℕ) where
-  pub passed-legs : (u t : ℕ) (shown : LegPrices) → ((i : ℕ) → get_or w i 0 ≤ most_word) → (p.lowered ≡ false → p.taken ≡ 0) → is_legs (record_at old j).contra ≡ true → u ≡ (record_at old j).units
-      → t ≡ min (p.taken + u) most_word → shown ≡ priced (prices_taken buy (legs_of w) (quotes_at w buy p)) → Prices old j new shown → Passed w buy p (lessened t) old new j
-  passed-legs u t shown m z l e s g q =
+  pub passed-legs : (u t : ℕ) (shown : LegPrices) → ((i : ℕ) → get_or w i 0 ≤ most_word) → is_legs (record_at old j).contra ≡ true → u ≡ (record_at old j).units
+      → t ≡ min (unwrap_or p.taken 0 + u) most_word → shown ≡ priced (prices_taken buy (legs_of w) (quotes_at w buy p)) → Prices old j new shown → Passed w buy p (lessened t) old new j
+  passed-legs u t shown m l e s g q =
       let f = record_at old j in
       let is = legs_shown buy (legs_of w) (quotes_at w buy p) (biased f.price) f.units f.contra l in
       record {
         put = prices_are old new j shown (leg_prices_of buy (legs_of w) (quotes_at w buy p) f.contra (biased f.price)) (g ∙ is.0) q;
-        after = rw (s, e) (quotes_after_lem w buy p.lowered p.taken f.units m z ∙ is.1);
+        after = rw (s, e) (quotes_after_lem w buy p.taken f.units m ∙ is.1);
       }
 
-  pub passed_entry : (price : ℕ) (r : Pass) (plus ratios bids widths bits prices : List ℕ) → is_legs (record_at old j).contra ≡ false → price ≡ biased (record_at old j).price → Found w buy p price r plus ratios bids widths bits prices
-      → Prices old j new (prices_from r.count prices) → Passed w buy p r old new j
-  passed_entry price r plus ratios bids widths bits prices l e v q =
+  pub passed_entry : (price : ℕ) (n : Pass) (r : Room) → is_legs (record_at old j).contra ≡ false → price ≡ biased (record_at old j).price → FoundIn w buy p price n r
+      → Prices old j new (prices_from n.count r.prices) → Passed w buy p n old new j
+  passed_entry price n r l e v q =
       let f = record_at old j in
       let is = entry-shown buy (legs_of w) (quotes_at w buy p) (biased f.price) f.units f.contra l in
       record {
-        put = prices_are old new j (prices_from r.count prices) (leg_prices_of buy (legs_of w) (quotes_at w buy p) f.contra (biased f.price)) (v.found ∙ ap (leg_prices (ranges_at w buy p)) e ∙ is.0) q;
+        put = prices_are old new j (prices_from n.count r.prices) (leg_prices_of buy (legs_of w) (quotes_at w buy p) f.contra (biased f.price)) (v.found ∙ ap (leg_prices (ranges_at w buy p)) e ∙ is.0) q;
         after = v.same ∙ is.1;
       }
 
@@ -216,7 +127,7 @@ module _ (w list₀ : List ℕ) (at end : ℕ) (buy : Bool) where
     pub records : (k : ℕ) → record_in list k ≡ record_in list₀ k
     pub prices : end * width ≤ length list₀ → from (prices_in list) at j ++ left (quotes_at w buy p) j ≡ left (market_of w) at
 
-  pub booking-start : (p : Pass) → p.lowered ≡ false → Booking p list₀ at
+  pub booking-start : (p : Pass) → p.taken ≡ None → Booking p list₀ at
   booking-start p e =
       record { sized = refl; before = λ i h. refl; behind = λ i h. refl; records = λ k. refl; prices = λ h. rw (from_end (prices_in list₀) at at (omega arith), e) }
 

@@ -7,6 +7,8 @@ use native.Mathlib.Decide.{dec_lt}
 use native.Mathlib.Omega.{arith}
 use borrow.Author.Tests.{le-ltb}
 use lib.ListN.{get_or}
+use Rattle.std.specs.Prelude.{Option, None, Some}
+use Rattle.std.specs.Option.{unwrap_or}
 use Rattle.rules.specs.Basics.{pick}
 use Rattle.rules.specs.Strategy.{Leg}
 use Rattle.rules.specs.Prices.{Side, Quote, uses_ask, lowered, lower_quote, lower}
@@ -35,30 +37,30 @@ lower_each : (buy : Bool) (units : ℕ) (f : ℕ → Leg) (g : ℕ → Quote) (n
 unfolding lower
 lower_each buy units f g n = each_from (lower buy units) (λ l q. lower_quote (uses_ask buy l) (l.ratio * units) q) refl (λ l ls q qs. refl) f g n (n - 0) 0 refl
 
-module _ (w : List ℕ) (buy low : Bool) (taken : ℕ) where
+module _ (w : List ℕ) (buy : Bool) (taken : Option ℕ) where
   -- the quote and the range of leg k
   abbrev pub quote_now_at : ℕ → Quote
-  quote_now_at k = quote_now buy low taken (leg_at w k) (quote_at w k)
+  quote_now_at k = quote_now buy taken (leg_at w k) (quote_at w k)
 
   abbrev pub range_now_at : ℕ → Range
   range_now_at k = range_of (leg_at w k) (quote_now_at k)
 
-quotes_each : (w : List ℕ) (buy low : Bool) (taken : ℕ) → quotes_now w buy low taken ≡ from (quote_now_at w buy low taken) 0 (leg_count w)
-quotes_each w buy true taken = lower_each buy taken (leg_at w) (quote_at w) (leg_count w)
-quotes_each w buy false taken = refl
+quotes_each : (w : List ℕ) (buy : Bool) (taken : Option ℕ) → quotes_now w buy taken ≡ from (quote_now_at w buy taken) 0 (leg_count w)
+quotes_each w buy (Some taken) = lower_each buy taken (leg_at w) (quote_at w) (leg_count w)
+quotes_each w buy None = refl
 
-pub ranges_each : (w : List ℕ) (buy low : Bool) (taken : ℕ) → ranges_now w buy low taken ≡ from (range_now_at w buy low taken) 0 (leg_count w)
-ranges_each w buy low taken =
-    ap (ranges_of (legs_of w)) (quotes_each w buy low taken) ∙ each_from ranges_of range_of refl (λ l ls q qs. refl) (leg_at w) (quote_now_at w buy low taken) (leg_count w) (leg_count w - 0) 0 refl
+pub ranges_each : (w : List ℕ) (buy : Bool) (taken : Option ℕ) → ranges_now w buy taken ≡ from (range_now_at w buy taken) 0 (leg_count w)
+ranges_each w buy taken =
+    ap (ranges_of (legs_of w)) (quotes_each w buy taken) ∙ each_from ranges_of range_of refl (λ l ls q qs. refl) (leg_at w) (quote_now_at w buy taken) (leg_count w) (leg_count w - 0) 0 refl
 
 price_of : (b : Bool) (a c : Side) → (pick b a c).price ≡ pick b a.price c.price
 price_of true a c = refl
 price_of false a c = refl
 
-pub taken_each : (w : List ℕ) (buy low : Bool) (taken : ℕ) → prices_taken buy (legs_of w) (quotes_now w buy low taken) ≡ from (λ k. price_used buy (range_now_at w buy low taken k)) 0 (leg_count w)
-taken_each w buy low taken =
-    ap (prices_taken buy (legs_of w)) (quotes_each w buy low taken)
-    ∙ each_from (prices_taken buy) (λ l q. price_used buy (range_of l q)) refl (λ l ls q qs. ap (λ (p : ℕ). p ∷ prices_taken buy ls qs) (price_of (uses_ask buy l) q.ask q.bid)) (leg_at w) (quote_now_at w buy low taken) (leg_count w) (leg_count w - 0) 0 refl
+pub taken_each : (w : List ℕ) (buy : Bool) (taken : Option ℕ) → prices_taken buy (legs_of w) (quotes_now w buy taken) ≡ from (λ k. price_used buy (range_now_at w buy taken k)) 0 (leg_count w)
+taken_each w buy taken =
+    ap (prices_taken buy (legs_of w)) (quotes_each w buy taken)
+    ∙ each_from (prices_taken buy) (λ l q. price_used buy (range_of l q)) refl (λ l ls q qs. ap (λ (p : ℕ). p ∷ prices_taken buy ls qs) (price_of (uses_ask buy l) q.ask q.bid)) (leg_at w) (quote_now_at w buy taken) (leg_count w) (leg_count w - 0) 0 refl
 
 -- ---- no side shows more than a word can be, so that no more need be taken
 
@@ -86,7 +88,7 @@ lower_most w buy n m =
     ∙ sym (lower_each buy n (leg_at w) (quote_at w) (leg_count w))
 
 -- the quotes after the legs gave some units more
-pub quotes_after_lem : (w : List ℕ) (buy low : Bool) (taken units : ℕ) → ((i : ℕ) → get_or w i 0 ≤ most_word) → (low ≡ false → taken ≡ 0)
-    → quotes_now w buy true (min (taken + units) most_word) ≡ lower buy units (legs_of w) (quotes_now w buy low taken)
-quotes_after_lem w buy true taken units m z = lower_most w buy (taken + units) m ∙ sym (lower_twice buy taken units (legs_of w) (market_of w))
-quotes_after_lem w buy false taken units m z = let e : taken + units ≡ units = omega (arith, z refl) in lower_most w buy (taken + units) m ∙ ap (λ (n : ℕ). lower buy n (legs_of w) (market_of w)) e
+pub quotes_after_lem : (w : List ℕ) (buy : Bool) (taken : Option ℕ) (units : ℕ) → ((i : ℕ) → get_or w i 0 ≤ most_word)
+    → quotes_now w buy (Some (min (unwrap_or taken 0 + units) most_word)) ≡ lower buy units (legs_of w) (quotes_now w buy taken)
+quotes_after_lem w buy (Some taken) units m = lower_most w buy (taken + units) m ∙ sym (lower_twice buy taken units (legs_of w) (market_of w))
+quotes_after_lem w buy None units m = let e : 0 + units ≡ units = omega arith in rw e (lower_most w buy units m)

@@ -1,7 +1,7 @@
 -- Ranges in arrays: leg prices are found in them where all legs are near, and where one is not there are none.
 use mathlib.Core.Path.{◌≡◌, refl, ap, sym, ◌∙◌}
 use mathlib.Core.Bool.{Bool, true, false, ◌&&◌, true≢false}
-use mathlib.Core.List.{List}
+use mathlib.Core.List.{List, [], ◌∷◌}
 use mathlib.Core.Logic.{◌⊎◌, inl, inr, ⊎_elim}
 use Prim.Native.Nat.{ℕ, zero, suc, ◌+◌, ◌-◌, ◌≤◌, ◌<◌}
 use native.Mathlib.Decide.{ℕ_discrete, dec_lt, dec_le}
@@ -11,6 +11,7 @@ use borrow.Author.Tests.{ne_eqb, lt-ltb, le-leb, lt-leb}
 use lib.Dec.{eqb, leb, ltb}
 use lib.ListN.{length, get_or, set, length-set}
 use lib.Seq.{get_or-set_same, get_or-set_other}
+use Rattle.std.specs.Prelude.{Option, None, Some}
 use Rattle.rules.specs.Basics.{pick}
 use Rattle.rules.specs.Strategy.{most_ratio}
 use Rattle.rules.specs.Prices.{most_cents}
@@ -22,14 +23,15 @@ use Rattle.state.proofs.TableLaws.{from-same}
 use Rattle.state.specs.View.{flag, leg_at, leg_count, legs_of, quote_at}
 use Rattle.quotes.specs.Ranges.{range_now}
 use Rattle.records.specs.Records.{prices_from}
-use Rattle.legprices.specs.Sums.{Spanned}
+use Rattle.legprices.specs.declared.Ranges.{Ranges}
+use Rattle.legprices.specs.Sums.{Bounded}
 use Rattle.legprices.specs.Ranges.{range_at}
 use Rattle.legprices.specs.Quoted.{quotes_now, price_used, is_near, Ranged}
 use Rattle.legprices.proofs.QuotedLaws.{range_now_at, ranges_each, taken_each}
 
 -- the range of a leg of four
-pub range_known : (w : List ℕ) (buy low : Bool) (taken k : ℕ) (r : Range) → k < 4 → r ≡ range_now k buy low taken (leg_at w k) (quote_at w k) → r ≡ range_now_at w buy low taken k
-range_known w buy low taken k r h e = rw (lt-ltb k 4 h) at e
+pub range_known : (w : List ℕ) (buy : Bool) (taken : Option ℕ) (k : ℕ) (r : Range) → k < 4 → r ≡ range_now k buy taken (leg_at w k) (quote_at w k) → r ≡ range_now_at w buy taken k
+range_known w buy taken k r h e = rw (lt-ltb k 4 h) at e
 
 -- ---- near
 
@@ -123,6 +125,16 @@ near-found gs price h = rw h
 
 -- ---- the arrays, one leg after another
 
+abbrev pub zeros : List ℕ
+zeros = 0 ∷ 0 ∷ 0 ∷ 0 ∷ []
+
+zeros_are : (k : ℕ) → get_or zeros k 0 ≡ 0
+zeros_are zero = refl
+zeros_are (suc zero) = refl
+zeros_are (suc (suc zero)) = refl
+zeros_are (suc (suc (suc zero))) = refl
+zeros_are (suc (suc (suc (suc k)))) = refl
+
 -- numbers stored at place k
 module _ (l : List ℕ) (k x : ℕ) (h : k < length l) where
   here : get_or (set l k x) k 0 ≡ x
@@ -135,95 +147,101 @@ module _ (l : List ℕ) (k x : ℕ) (h : k < length l) where
         | no n ↦ omega (arith, get_or-set_other l k i x 0 n, p i)
       ]
 
-module _ (w : List ℕ) (buy low : Bool) (taken : ℕ) where
+module _ (w : List ℕ) (buy : Bool) (taken : Option ℕ) where
   -- the first k legs are near, and their ranges in the arrays
-  pub record Filling (plus ratios bids widths : List ℕ) (k : ℕ) : Type 0 where
-    pub plus_sized : length plus ≡ 4
-    pub bids_sized : length bids ≡ 4
-    pub spanned : Spanned ratios widths (leg_count w)
-    pub done : (i : ℕ) → i < k → range_at plus ratios bids widths i ≡ range_now_at w buy low taken i
-    pub near : (i : ℕ) → i < k → is_near (range_now_at w buy low taken i).bid (range_now_at w buy low taken i).ask ≡ true
+  pub record Filling (r : Ranges) (k : ℕ) : Type 0 where
+    pub plus_sized : length r.plus ≡ 4
+    pub ratios_sized : length r.ratios ≡ 4
+    pub bids_sized : length r.bids ≡ 4
+    pub widths_sized : length r.widths ≡ 4
+    pub counted : r.count ≡ leg_count w
+    pub bounded : Bounded r
+    pub done : (i : ℕ) → i < k → range_at r i ≡ range_now_at w buy taken i
+    pub near : (i : ℕ) → i < k → is_near (range_now_at w buy taken i).bid (range_now_at w buy taken i).ask ≡ true
 
-  pub filling-start : (plus ratios bids widths : List ℕ) → length plus ≡ 4 → length bids ≡ 4 → Spanned ratios widths (leg_count w) → Filling plus ratios bids widths 0
-  filling-start plus ratios bids widths p b s = record { plus_sized = p; bids_sized = b; spanned = s; done = λ i h. absurd (omega arith); near = λ i h. absurd (omega arith) }
+  pub filling-start : (n : ℕ) → n ≡ leg_count w → n ≤ 4 → Filling (record { plus = zeros; ratios = zeros; bids = zeros; widths = zeros; count = n }) 0
+  filling-start n c h =
+      record {
+        plus_sized = refl;
+        ratios_sized = refl;
+        bids_sized = refl;
+        widths_sized = refl;
+        counted = c;
+        bounded = record { few = h; ratio = λ k. omega (arith, zeros_are k); width = λ k. omega (arith, zeros_are k) };
+        done = λ i h. absurd (omega arith);
+        near = λ i h. absurd (omega arith);
+      }
 
-  module _ (plus ratios bids widths : List ℕ) (k : ℕ) (v : Filling plus ratios bids widths k) where
-    pub filling_step : (p r b a : ℕ) → k < 4 → record { plus = flag p; ratio = r; bid = b; ask = a } ≡ range_now_at w buy low taken k → is_near b a ≡ true → Filling (set plus k p) (set ratios k r) (set bids k b) (set widths k (a - b)) (k + 1)
-    filling_step p r b a h e t =
-        let q = near-says b a t in
-        let rs : r ≤ most_ratio = omega (arith, ap (λ (g : Range). g.ratio) e) in
-        let s = v.spanned in
+  module _ (r : Ranges) (k : ℕ) (v : Filling r k) where
+    pub filling_step : (p t b a : ℕ) → k < 4 → record { plus = flag p; ratio = t; bid = b; ask = a } ≡ range_now_at w buy taken k → is_near b a ≡ true
+        → Filling (record { plus = set r.plus k p; ratios = set r.ratios k t; bids = set r.bids k b; widths = set r.widths k (a - b); count = r.count }) (k + 1)
+    filling_step p t b a h e f =
+        let q = near-says b a f in
+        let rs : t ≤ most_ratio = omega (arith, ap (λ (g : Range). g.ratio) e) in
+        let s = v.bounded in
         let wide : b + (a - b) ≡ a = omega (arith, q.1) in
         record {
-          plus_sized = length-set plus k p ∙ v.plus_sized;
-          bids_sized = length-set bids k b ∙ v.bids_sized;
-          spanned = record {
+          plus_sized = length-set r.plus k p ∙ v.plus_sized;
+          ratios_sized = length-set r.ratios k t ∙ v.ratios_sized;
+          bids_sized = length-set r.bids k b ∙ v.bids_sized;
+          widths_sized = length-set r.widths k (a - b) ∙ v.widths_sized;
+          counted = v.counted;
+          bounded = record {
             few = s.few;
-            ratios_sized = length-set ratios k r ∙ s.ratios_sized;
-            widths_sized = length-set widths k (a - b) ∙ s.widths_sized;
-            ratio = most-set ratios k r (omega (arith, s.ratios_sized)) most_ratio rs s.ratio;
-            width = most-set widths k (a - b) (omega (arith, s.widths_sized)) most_wide (omega (arith, q.2)) s.width;
+            ratio = most-set r.ratios k t (omega (arith, v.ratios_sized)) most_ratio rs s.ratio;
+            width = most-set r.widths k (a - b) (omega (arith, v.widths_sized)) most_wide (omega (arith, q.2)) s.width;
           };
-          done = below_more (λ i. range_at (set plus k p) (set ratios k r) (set bids k b) (set widths k (a - b)) i ≡ range_now_at w buy low taken i) k
+          done = below_more (λ i. range_at (record { plus = set r.plus k p; ratios = set r.ratios k t; bids = set r.bids k b; widths = set r.widths k (a - b); count = r.count }) i ≡ range_now_at w buy taken i) k
               (λ i x. let other : (l : List ℕ) (y : ℕ) → get_or (set l k y) i 0 ≡ get_or l i 0 = λ l y. get_or-set_other l k i y 0 (λ z. omega arith) in
-              rw (other plus p, other ratios r, other bids b, other widths (a - b)) (v.done i x))
-              (rw (here plus k p (omega (arith, v.plus_sized)), here ratios k r (omega (arith, s.ratios_sized)), here bids k b (omega (arith, v.bids_sized)), here widths k (a - b) (omega (arith, s.widths_sized)), wide) e);
-          near = below_more (λ i. is_near (range_now_at w buy low taken i).bid (range_now_at w buy low taken i).ask ≡ true) k v.near
-              (ap (λ (g : Range). is_near g.bid g.ask) (sym e) ∙ t);
+              rw (other r.plus p, other r.ratios t, other r.bids b, other r.widths (a - b)) (v.done i x))
+              (rw (here r.plus k p (omega (arith, v.plus_sized)), here r.ratios k t (omega (arith, v.ratios_sized)), here r.bids k b (omega (arith, v.bids_sized)), here r.widths k (a - b) (omega (arith, v.widths_sized)), wide) e);
+          near = below_more (λ i. is_near (range_now_at w buy taken i).bid (range_now_at w buy taken i).ask ≡ true) k v.near
+              (ap (λ (g : Range). is_near g.bid g.ask) (sym e) ∙ f);
         }
 
-    -- a leg that is not near
-    pub filling-far : (r : Range) → k < leg_count w → r ≡ range_now_at w buy low taken k → is_near r.bid r.ask ≡ false → Ranged w buy low taken false plus ratios bids widths
-    filling-far r h e t =
-        record {
-          plus_sized = v.plus_sized;
-          bids_sized = v.bids_sized;
-          spanned = v.spanned;
-          some = λ f. absurd (true≢false (sym f));
-          none = λ f price. far_none (range_now_at w buy low taken) (leg_count w) k h (ap (λ (g : Range). is_near g.bid g.ask) (sym e) ∙ t) price
-              ∙ ap (λ (gs : List Range). leg_prices gs price) (sym (ranges_each w buy low taken));
-        }
+    pub filling-end : leg_count w ≤ k → Ranged w buy taken (Some r)
+    filling-end h = (
+      v.bounded,
+      λ price.
+          let n = leg_count w in
+          let g = range_now_at w buy taken in
+          ap (λ (m : ℕ). search (from (range_at r) 0 m) most_cents price) v.counted
+          ∙ ap (λ (gs : List Range). search gs most_cents price) (from-same (range_at r) g 0 n (λ i a b. v.done i (omega arith)))
+          ∙ near-found (from g 0 n) price (all_near g n (n - 0) 0 refl (λ i b. v.near i (omega arith)))
+          ∙ ap (λ (gs : List Range). leg_prices gs price) (sym (ranges_each w buy taken)),
+    )
 
-    pub filling-end : leg_count w ≤ k → Ranged w buy low taken true plus ratios bids widths
-    filling-end h =
-        record {
-          plus_sized = v.plus_sized;
-          bids_sized = v.bids_sized;
-          spanned = v.spanned;
-          some = λ f price.
-              let n = leg_count w in
-              let g = range_now_at w buy low taken in
-              ap (λ (gs : List Range). search gs most_cents price) (from-same (range_at plus ratios bids widths) g 0 n (λ i a b. v.done i (omega arith)))
-              ∙ near-found (from g 0 n) price (all_near g n (n - 0) 0 refl (λ i b. v.near i (omega arith)))
-              ∙ ap (λ (gs : List Range). leg_prices gs price) (sym (ranges_each w buy low taken));
-          none = λ f. absurd (true≢false f);
-        }
+  -- a leg that is not near
+  pub filling-far : (k : ℕ) (r : Range) → k < leg_count w → r ≡ range_now_at w buy taken k → is_near r.bid r.ask ≡ false → Ranged w buy taken None
+  filling-far k r h e t price =
+      far_none (range_now_at w buy taken) (leg_count w) k h (ap (λ (g : Range). is_near g.bid g.ask) (sym e) ∙ t) price
+      ∙ ap (λ (gs : List Range). leg_prices gs price) (sym (ranges_each w buy taken))
 
 -- ---- the prices taken
 
-module _ (w : List ℕ) (buy low : Bool) (taken : ℕ) where
+module _ (w : List ℕ) (buy : Bool) (taken : Option ℕ) where
   -- those of the first k legs
   pub record Taking (prices : List ℕ) (k : ℕ) : Type 0 where
     pub sized : length prices ≡ 4
-    pub done : (i : ℕ) → i < k → get_or prices i 0 ≡ price_used buy (range_now_at w buy low taken i)
+    pub done : (i : ℕ) → i < k → get_or prices i 0 ≡ price_used buy (range_now_at w buy taken i)
 
   pub taking-start : (prices : List ℕ) → length prices ≡ 4 → Taking prices 0
   taking-start prices h = record { sized = h; done = λ i b. absurd (omega arith) }
 
-  pub taking_step : (prices : List ℕ) (k p : ℕ) (r : Range) → k < 4 → r ≡ range_now k buy low taken (leg_at w k) (quote_at w k) → p ≡ price_used buy r → Taking prices k → Taking (set prices k p) (k + 1)
+  pub taking_step : (prices : List ℕ) (k p : ℕ) (r : Range) → k < 4 → r ≡ range_now k buy taken (leg_at w k) (quote_at w k) → p ≡ price_used buy r → Taking prices k → Taking (set prices k p) (k + 1)
   taking_step prices k p r h e u v =
       record {
         sized = length-set prices k p ∙ v.sized;
-        done = below_more (λ i. get_or (set prices k p) i 0 ≡ price_used buy (range_now_at w buy low taken i)) k
+        done = below_more (λ i. get_or (set prices k p) i 0 ≡ price_used buy (range_now_at w buy taken i)) k
             (λ i b. get_or-set_other prices k i p 0 (λ z. omega arith) ∙ v.done i b)
-            (here prices k p (omega (arith, v.sized)) ∙ u ∙ ap (price_used buy) (range_known w buy low taken k r h e));
+            (here prices k p (omega (arith, v.sized)) ∙ u ∙ ap (price_used buy) (range_known w buy taken k r h e));
       }
 
-  pub taking-end : (prices : List ℕ) (k n : ℕ) → k ≡ leg_count w → n ≡ k + 1 → Taking prices k → prices_from n prices ≡ priced (prices_taken buy (legs_of w) (quotes_now w buy low taken))
+  pub taking-end : (prices : List ℕ) (k n : ℕ) → k ≡ leg_count w → n ≡ k + 1 → Taking prices k → prices_from n prices ≡ priced (prices_taken buy (legs_of w) (quotes_now w buy taken))
   taking-end prices k n e m v =
       let z : eqb n 0 ≡ false = ne_eqb n 0 (λ q. omega arith) in
       let l : n - 1 ≡ leg_count w = omega arith in
       rw (z, l)
       (ap priced
-      (sym (from-take 0 prices (leg_count w) (omega (arith, v.sized))) ∙ from-same (λ i. get_or prices i 0) (λ i. price_used buy (range_now_at w buy low taken i)) 0 (leg_count w) (λ i a b. v.done i (omega arith))
-      ∙ sym (taken_each w buy low taken)))
+      (sym (from-take 0 prices (leg_count w) (omega (arith, v.sized))) ∙ from-same (λ i. get_or prices i 0) (λ i. price_used buy (range_now_at w buy taken i)) 0 (leg_count w) (λ i a b. v.done i (omega arith))
+      ∙ sym (taken_each w buy taken)))

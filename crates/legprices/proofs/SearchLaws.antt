@@ -11,6 +11,7 @@ use borrow.Author.Tests.{eq-eqb, ne_eqb, le-leb, lt-leb}
 use lib.Dec.{leb}
 use lib.ListN.{length, get_or, take, set}
 use lib.Seq.{take-suc-set, append_snoc}
+use Rattle.std.specs.Prelude.{Option, None, Some}
 use Rattle.rules.specs.Basics.{pick, All}
 use Rattle.rules.specs.LegPrices.{LegPrices, unpriced, priced, Range, before, tries}
 use Rattle.rules.proofs.TestLaws.{le_of, and_left, and_no}
@@ -18,9 +19,10 @@ use Rattle.types.specs.View.{upto, from}
 use Rattle.types.proofs.TableLaws.{from_cons, from_end}
 use Rattle.state.specs.View.{flag}
 use Rattle.records.specs.Records.{prices_from}
+use Rattle.legprices.specs.declared.Ranges.{Ranges}
 use Rattle.legprices.specs.Sums.{Span, span_at, spans_from, reach}
 use Rattle.legprices.specs.Ranges.{range_at}
-use Rattle.legprices.specs.Found.{counts, takes, found, least_paid, most_got, greatest, spans_of, is_priced, first, fits, behind}
+use Rattle.legprices.specs.Found.{counts, takes, found, least_paid, most_got, greatest, spans_of, is_priced, first, IsFirst, fits, behind}
 use Rattle.legprices.proofs.SumLaws.{reach_above}
 use Rattle.legprices.proofs.FoundLaws.{Ordered, counts_most, pick-priced, found-reach, tries-first, tries-last}
 
@@ -125,7 +127,7 @@ module _ (plus : Bool) (ratio width : ℕ) (gs : List Span) (rest s low high : �
             | no l ↦ inr (omega arith)
           ]
 
-  module _ (k : low ≤ high) (at end x : ℕ) (a : at ≡ pick plus low (width - high)) (z : end ≡ at + (high - low)) (e : x ≡ first (end + 1 - at) at (fits plus ratio width gs s)) where
+  module _ (k : low ≤ high) (at end : ℕ) (a : at ≡ pick plus low (width - high)) (z : end ≡ at + (high - low)) where
     from_at : first (width + 1) 0 (fits plus ratio width gs s) ≡ first (end + 1 - at + (width - end)) at (fits plus ratio width gs s)
     from_at =
         let w : at + (high - low) ≤ width = at-within plus width low high at h k a in
@@ -135,114 +137,115 @@ module _ (plus : Bool) (ratio width : ℕ) (gs : List Span) (rest s low high : �
         ∙ first_late at (end + 1 - at + (width - end)) 0 (fits plus ratio width gs s) (λ j u v. miss j (omega arith) (out_below plus width low high at j h a (omega arith)))
         ∙ ap (λ (t : ℕ). first (end + 1 - at + (width - end)) t (fits plus ratio width gs s)) q
 
-    pub lowest-hit : x ≤ end → x ≡ first (width + 1) 0 (fits plus ratio width gs s)
-    lowest-hit u = e ∙ sym (first_early (end + 1 - at) (width - end) at (fits plus ratio width gs s) (omega arith)) ∙ sym from_at
-
-    pub lowest-miss : end < x → width + 1 ≡ first (width + 1) 0 (fits plus ratio width gs s)
-    lowest-miss u =
+    pub lowest-found : (r : Option ℕ) → IsFirst r end (first (end + 1 - at) at (fits plus ratio width gs s)) → IsFirst r width (first (width + 1) 0 (fits plus ratio width gs s))
+    lowest-found (Some x) f =
+        let e = f.0 in
+        let u = f.1 in
+        let w : at + (high - low) ≤ width = at-within plus width low high at h k a in
+        (e ∙ sym (first_early (end + 1 - at) (width - end) at (fits plus ratio width gs s) (omega arith)) ∙ sym from_at, omega arith)
+    lowest-found None e =
         let w : at + (high - low) ≤ width = at-within plus width low high at h k a in
         let p : at + (end + 1 - at) ≡ end + 1 = omega arith in
         let q : end + 1 + (width - end) ≡ width + 1 = omega arith in
-        sym
-        (from_at ∙ first-over (end + 1 - at) (width - end) at (fits plus ratio width gs s) (omega arith) ∙ ap (λ (t : ℕ). first (width - end) t (fits plus ratio width gs s)) p
-        ∙ first_none (width - end) (end + 1) (fits plus ratio width gs s) (λ j u v. miss j (omega arith) (out_above plus width low high at end j h k a z (omega arith) (omega arith))) ∙ q)
+        from_at ∙ first-over (end + 1 - at) (width - end) at (fits plus ratio width gs s) (omega arith) ∙ ap (λ (t : ℕ). first (width - end) t (fits plus ratio width gs s)) p
+        ∙ first_none (width - end) (end + 1) (fits plus ratio width gs s) (λ j u v. miss j (omega arith) (out_above plus width low high at end j h k a z (omega arith) (omega arith))) ∙ q
 
 -- ---- legs in arrays
 
-module _ (plus ratios bids widths : List ℕ) where
-  upto-ordered : (k m : ℕ) → All Ordered (upto (range_at plus ratios bids widths) k m)
+module _ (r : Ranges) where
+  upto-ordered : (k m : ℕ) → All Ordered (upto (range_at r) k m)
   unfolding upto
   upto-ordered k zero = tt
   upto-ordered k (suc m) = (omega arith, upto-ordered (k + 1) m)
 
-  pub ranges-ordered : (i n : ℕ) → All Ordered (from (range_at plus ratios bids widths) i n)
-  ranges-ordered i n = upto-ordered i (n - i)
+  pub ranges-ordered : (i : ℕ) → All Ordered (from (range_at r) i r.count)
+  ranges-ordered i = upto-ordered i (r.count - i)
 
-  upto-spans : (k m : ℕ) → spans_of (upto (range_at plus ratios bids widths) k m) ≡ upto (span_at ratios widths) k m
+  upto-spans : (k m : ℕ) → spans_of (upto (range_at r) k m) ≡ upto (span_at r) k m
   unfolding upto
   upto-spans k zero = refl
   upto-spans k (suc m) =
-      let w : get_or bids k 0 + get_or widths k 0 - get_or bids k 0 ≡ get_or widths k 0 = omega arith in
+      let w : get_or r.bids k 0 + get_or r.widths k 0 - get_or r.bids k 0 ≡ get_or r.widths k 0 = omega arith in
       let later = upto-spans (k + 1) m in
-      λ j. record { ratio = get_or ratios k 0; width = w j } ∷ later j
+      λ j. record { ratio = get_or r.ratios k 0; width = w j } ∷ later j
 
-  pub spans-are : (i n : ℕ) → spans_of (from (range_at plus ratios bids widths) i n) ≡ spans_from ratios widths i n
-  spans-are i n = upto-spans i (n - i)
+  pub spans-are : (i : ℕ) → spans_of (from (range_at r) i r.count) ≡ spans_from r i
+  spans-are i = upto-spans i (r.count - i)
 
-module _ (plus ratios bids widths : List ℕ) (n i : ℕ) (h : i < n) where
-  pub paid-step : least_paid (from (range_at plus ratios bids widths) i n)
-      ≡ pick (flag (get_or plus i 0)) (get_or ratios i 0 * get_or bids i 0) 0 + least_paid (from (range_at plus ratios bids widths) (i + 1) n)
-  paid-step = ap least_paid (from_cons (range_at plus ratios bids widths) i n h)
+module _ (r : Ranges) (i : ℕ) (h : i < r.count) where
+  pub paid-step : least_paid (from (range_at r) i r.count)
+      ≡ pick (flag (get_or r.plus i 0)) (get_or r.ratios i 0 * get_or r.bids i 0) 0 + least_paid (from (range_at r) (i + 1) r.count)
+  paid-step = ap least_paid (from_cons (range_at r) i r.count h)
 
-  pub got-step : most_got (from (range_at plus ratios bids widths) i n)
-      ≡ pick (flag (get_or plus i 0)) 0 (get_or ratios i 0 * (get_or bids i 0 + get_or widths i 0)) + most_got (from (range_at plus ratios bids widths) (i + 1) n)
-  got-step = ap most_got (from_cons (range_at plus ratios bids widths) i n h)
+  pub got-step : most_got (from (range_at r) i r.count)
+      ≡ pick (flag (get_or r.plus i 0)) 0 (get_or r.ratios i 0 * (get_or r.bids i 0 + get_or r.widths i 0)) + most_got (from (range_at r) (i + 1) r.count)
+  got-step = ap most_got (from_cons (range_at r) i r.count h)
 
-  pub greatest-step : greatest (spans_from ratios widths i n) ≡ get_or ratios i 0 * get_or widths i 0 + greatest (spans_from ratios widths (i + 1) n)
-  greatest-step = ap greatest (from_cons (span_at ratios widths) i n h)
+  pub greatest-step : greatest (spans_from r i) ≡ get_or r.ratios i 0 * get_or r.widths i 0 + greatest (spans_from r (i + 1))
+  greatest-step = ap greatest (from_cons (span_at r) i r.count h)
 
-module _ (plus ratios bids widths : List ℕ) (n i : ℕ) (h : n ≤ i) where
-  pub paid-end : least_paid (from (range_at plus ratios bids widths) i n) ≡ 0
-  paid-end = ap least_paid (from_end (range_at plus ratios bids widths) i n h)
+module _ (r : Ranges) (i : ℕ) (h : r.count ≤ i) where
+  pub paid-end : least_paid (from (range_at r) i r.count) ≡ 0
+  paid-end = ap least_paid (from_end (range_at r) i r.count h)
 
-  pub got-end : most_got (from (range_at plus ratios bids widths) i n) ≡ 0
-  got-end = ap most_got (from_end (range_at plus ratios bids widths) i n h)
+  pub got-end : most_got (from (range_at r) i r.count) ≡ 0
+  got-end = ap most_got (from_end (range_at r) i r.count h)
 
-  pub greatest-end : greatest (spans_from ratios widths i n) ≡ 0
-  greatest-end = ap greatest (from_end (span_at ratios widths) i n h)
+  pub greatest-end : greatest (spans_from r i) ≡ 0
+  greatest-end = ap greatest (from_end (span_at r) i r.count h)
 
 -- ---- leg by leg
 
-module _ (plus ratios bids widths : List ℕ) (n i : ℕ) (h : i < n) (s x : ℕ)
-    (e : x ≡ first (get_or widths i 0 + 1) 0 (fits (flag (get_or plus i 0)) (get_or ratios i 0) (get_or widths i 0) (spans_from ratios widths (i + 1) n) s)) where
+module _ (r : Ranges) (i : ℕ) (h : i < r.count) (s x : ℕ)
+    (e : x ≡ first (get_or r.widths i 0 + 1) 0 (fits (flag (get_or r.plus i 0)) (get_or r.ratios i 0) (get_or r.widths i 0) (spans_from r (i + 1)) s)) where
   tried : ℕ → LegPrices
-  tried p = let g = range_at plus ratios bids widths i in pick (leb (takes g p) s) (found (from (range_at plus ratios bids widths) (i + 1) n) (s - takes g p)) unpriced
+  tried p = let g = range_at r i in pick (leb (takes g p) s) (found (from (range_at r) (i + 1) r.count) (s - takes g p)) unpriced
 
-  took : (k : ℕ) → takes (range_at plus ratios bids widths i) (get_or bids i 0 + k) ≡ get_or ratios i 0 * counts (flag (get_or plus i 0)) (get_or widths i 0) k
+  took : (k : ℕ) → takes (range_at r i) (get_or r.bids i 0 + k) ≡ get_or r.ratios i 0 * counts (flag (get_or r.plus i 0)) (get_or r.widths i 0) k
   took k =
-      let w : get_or bids i 0 + get_or widths i 0 - get_or bids i 0 ≡ get_or widths i 0 = omega arith in
-      let z : get_or bids i 0 + k - get_or bids i 0 ≡ k = omega arith in
-      λ j. get_or ratios i 0 * counts (flag (get_or plus i 0)) (w j) (z j)
+      let w : get_or r.bids i 0 + get_or r.widths i 0 - get_or r.bids i 0 ≡ get_or r.widths i 0 = omega arith in
+      let z : get_or r.bids i 0 + k - get_or r.bids i 0 ≡ k = omega arith in
+      λ j. get_or r.ratios i 0 * counts (flag (get_or r.plus i 0)) (w j) (z j)
 
-  tried-fits : (k : ℕ) → is_priced (tried (get_or bids i 0 + k)) ≡ fits (flag (get_or plus i 0)) (get_or ratios i 0) (get_or widths i 0) (spans_from ratios widths (i + 1) n) s k
+  tried-fits : (k : ℕ) → is_priced (tried (get_or r.bids i 0 + k)) ≡ fits (flag (get_or r.plus i 0)) (get_or r.ratios i 0) (get_or r.widths i 0) (spans_from r (i + 1)) s k
   unfolding tried
   tried-fits k =
-      let gs = from (range_at plus ratios bids widths) (i + 1) n in
-      let t : ℕ = takes (range_at plus ratios bids widths i) (get_or bids i 0 + k) in
+      let gs = from (range_at r) (i + 1) r.count in
+      let t : ℕ = takes (range_at r i) (get_or r.bids i 0 + k) in
       pick-priced (leb t s) (found gs (s - t))
-      ∙ ap (λ (b : Bool). leb t s && b) (found-reach gs (s - t) (ranges-ordered plus ratios bids widths (i + 1) n) ∙ ap (λ (l : List Span). reach l (s - t)) (spans-are plus ratios bids widths (i + 1) n))
-      ∙ ap (λ (t : ℕ). leb t s && reach (spans_from ratios widths (i + 1) n) (s - t)) (took k)
+      ∙ ap (λ (b : Bool). leb t s && b) (found-reach gs (s - t) (ranges-ordered r (i + 1)) ∙ ap (λ (l : List Span). reach l (s - t)) (spans-are r (i + 1)))
+      ∙ ap (λ (t : ℕ). leb t s && reach (spans_from r (i + 1)) (s - t)) (took k)
 
-  all-tried : found (from (range_at plus ratios bids widths) i n) s ≡ tries (get_or widths i 0 + 1) (get_or bids i 0 + 0) tried
+  all-tried : found (from (range_at r) i r.count) s ≡ tries (get_or r.widths i 0 + 1) (get_or r.bids i 0 + 0) tried
   unfolding found tried
   all-tried =
-      let p : suc (get_or bids i 0 + get_or widths i 0) - get_or bids i 0 ≡ get_or widths i 0 + 1 = omega arith in
-      let q : get_or bids i 0 ≡ get_or bids i 0 + 0 = omega arith in
-      ap (λ (l : List Range). found l s) (from_cons (range_at plus ratios bids widths) i n h) ∙ ap₂ (λ (k : ℕ) (b : ℕ). tries k b tried) p q
+      let p : suc (get_or r.bids i 0 + get_or r.widths i 0) - get_or r.bids i 0 ≡ get_or r.widths i 0 + 1 = omega arith in
+      let q : get_or r.bids i 0 ≡ get_or r.bids i 0 + 0 = omega arith in
+      ap (λ (l : List Range). found l s) (from_cons (range_at r) i r.count h) ∙ ap₂ (λ (k : ℕ) (b : ℕ). tries k b tried) p q
 
-  does-fit : x ≤ get_or widths i 0 → fits (flag (get_or plus i 0)) (get_or ratios i 0) (get_or widths i 0) (spans_from ratios widths (i + 1) n) s x ≡ true
+  does-fit : x ≤ get_or r.widths i 0 → fits (flag (get_or r.plus i 0)) (get_or r.ratios i 0) (get_or r.widths i 0) (spans_from r (i + 1)) s x ≡ true
   does-fit u =
-      let F : ℕ → Bool = fits (flag (get_or plus i 0)) (get_or ratios i 0) (get_or widths i 0) (spans_from ratios widths (i + 1) n) s in
-      ap F e ∙ first_passes (get_or widths i 0 + 1) 0 F (omega arith)
+      let F : ℕ → Bool = fits (flag (get_or r.plus i 0)) (get_or r.ratios i 0) (get_or r.widths i 0) (spans_from r (i + 1)) s in
+      ap F e ∙ first_passes (get_or r.widths i 0 + 1) 0 F (omega arith)
 
-  pub part-most : x ≤ get_or widths i 0 → get_or ratios i 0 * counts (flag (get_or plus i 0)) (get_or widths i 0) x ≤ s
-  part-most u = let t : ℕ = get_or ratios i 0 * counts (flag (get_or plus i 0)) (get_or widths i 0) x in le_of t s (and_left (leb t s) (reach (spans_from ratios widths (i + 1) n) (s - t)) (does-fit u))
+  pub part-most : x ≤ get_or r.widths i 0 → get_or r.ratios i 0 * counts (flag (get_or r.plus i 0)) (get_or r.widths i 0) x ≤ s
+  part-most u = let t : ℕ = get_or r.ratios i 0 * counts (flag (get_or r.plus i 0)) (get_or r.widths i 0) x in le_of t s (and_left (leb t s) (reach (spans_from r (i + 1)) (s - t)) (does-fit u))
 
-  pub found-hit : x ≤ get_or widths i 0 → found (from (range_at plus ratios bids widths) i n) s
-      ≡ before (get_or bids i 0 + x) (found (from (range_at plus ratios bids widths) (i + 1) n) (s - get_or ratios i 0 * counts (flag (get_or plus i 0)) (get_or widths i 0) x))
+  pub found-hit : x ≤ get_or r.widths i 0 → found (from (range_at r) i r.count) s
+      ≡ before (get_or r.bids i 0 + x) (found (from (range_at r) (i + 1) r.count) (s - get_or r.ratios i 0 * counts (flag (get_or r.plus i 0)) (get_or r.widths i 0) x))
   unfolding tried
   found-hit u =
-      let F : ℕ → Bool = fits (flag (get_or plus i 0)) (get_or ratios i 0) (get_or widths i 0) (spans_from ratios widths (i + 1) n) s in
-      let gs = from (range_at plus ratios bids widths) (i + 1) n in
-      all-tried ∙ tries-first (get_or bids i 0) tried F tried-fits (get_or widths i 0 + 1) 0 (omega arith)
-      ∙ ap (λ (y : ℕ). before (get_or bids i 0 + y) (tried (get_or bids i 0 + y))) (sym e)
-      ∙ ap (λ (t : ℕ). before (get_or bids i 0 + x) (pick (leb t s) (found gs (s - t)) unpriced)) (took x)
-      ∙ ap (λ (b : Bool). before (get_or bids i 0 + x) (pick b (found gs (s - get_or ratios i 0 * counts (flag (get_or plus i 0)) (get_or widths i 0) x)) unpriced)) (le-leb _ s (part-most u))
+      let F : ℕ → Bool = fits (flag (get_or r.plus i 0)) (get_or r.ratios i 0) (get_or r.widths i 0) (spans_from r (i + 1)) s in
+      let gs = from (range_at r) (i + 1) r.count in
+      all-tried ∙ tries-first (get_or r.bids i 0) tried F tried-fits (get_or r.widths i 0 + 1) 0 (omega arith)
+      ∙ ap (λ (y : ℕ). before (get_or r.bids i 0 + y) (tried (get_or r.bids i 0 + y))) (sym e)
+      ∙ ap (λ (t : ℕ). before (get_or r.bids i 0 + x) (pick (leb t s) (found gs (s - t)) unpriced)) (took x)
+      ∙ ap (λ (b : Bool). before (get_or r.bids i 0 + x) (pick b (found gs (s - get_or r.ratios i 0 * counts (flag (get_or r.plus i 0)) (get_or r.widths i 0) x)) unpriced)) (le-leb _ s (part-most u))
 
-  pub found-miss : get_or widths i 0 < x → found (from (range_at plus ratios bids widths) i n) s ≡ unpriced
+  pub found-miss : get_or r.widths i 0 < x → found (from (range_at r) i r.count) s ≡ unpriced
   found-miss u =
-      let F : ℕ → Bool = fits (flag (get_or plus i 0)) (get_or ratios i 0) (get_or widths i 0) (spans_from ratios widths (i + 1) n) s in
-      all-tried ∙ tries-last (get_or bids i 0) tried F tried-fits (get_or widths i 0 + 1) 0 (omega arith)
+      let F : ℕ → Bool = fits (flag (get_or r.plus i 0)) (get_or r.ratios i 0) (get_or r.widths i 0) (spans_from r (i + 1)) s in
+      all-tried ∙ tries-last (get_or r.bids i 0) tried F tried-fits (get_or r.widths i 0 + 1) 0 (omega arith)
 
 -- ---- prices behind prices
 
@@ -254,14 +257,14 @@ pub behind_more : (i : ℕ) (l : List ℕ) (p : ℕ) (r : LegPrices) → i < len
 behind_more i l p unpriced h = refl
 behind_more i l p (priced qs) h = ap priced (rw (add-one, take-suc-set, append_snoc))
 
-module _ (plus ratios bids widths : List ℕ) (n i : ℕ) (h : n ≤ i) (k : i ≤ n) (l : List ℕ) (s : ℕ) where
-  pub all-priced : s ≡ 0 → prices_from (n + 1) l ≡ behind (take i l) (found (from (range_at plus ratios bids widths) i n) s)
+module _ (r : Ranges) (i : ℕ) (h : r.count ≤ i) (k : i ≤ r.count) (l : List ℕ) (s : ℕ) where
+  pub all-priced : s ≡ 0 → prices_from (r.count + 1) l ≡ behind (take i l) (found (from (range_at r) i r.count) s)
   unfolding found
   all-priced e =
-      let p : n + 1 - 1 ≡ n = omega arith in
-      let q : i ≡ n = omega arith in
-      rw (from_end (range_at plus ratios bids widths) i n h, eq-eqb s 0 e, ne_eqb (n + 1) 0 (λ z. omega arith), p, q) (ap priced (sym (append-nil (take n l))))
+      let p : r.count + 1 - 1 ≡ r.count = omega arith in
+      let q : i ≡ r.count = omega arith in
+      rw (from_end (range_at r) i r.count h, eq-eqb s 0 e, ne_eqb (r.count + 1) 0 (λ z. omega arith), p, q) (ap priced (sym (append-nil (take r.count l))))
 
-  pub none_left : (s ≡ 0 → ⊥) → unpriced ≡ behind (take i l) (found (from (range_at plus ratios bids widths) i n) s)
+  pub none_left : (s ≡ 0 → ⊥) → unpriced ≡ behind (take i l) (found (from (range_at r) i r.count) s)
   unfolding found
-  none_left e = rw (from_end (range_at plus ratios bids widths) i n h, ne_eqb s 0 e)
+  none_left e = rw (from_end (range_at r) i r.count h, ne_eqb s 0 e)

@@ -1,5 +1,5 @@
 -- The search for leg prices as one for a sum: with the least that can be paid and the most that can be got, each cent up from a bid where it is paid, or down from an ask where it is got, counts its ratio.
-use Rattle.std.specs.Prelude.{Bool, true, false, ◌&&◌, List, [], ◌∷◌, ◌++◌, ℕ, zero, suc, ◌+◌, ◌-◌, ◌*◌, eqb, leb}
+use Rattle.std.specs.Prelude.{◌≡◌, ◌≤◌, Option, None, Some, Bool, true, false, ◌&&◌, List, [], ◌∷◌, ◌++◌, ℕ, zero, suc, ◌+◌, ◌-◌, ◌*◌, eqb, leb}
 use Rattle.rules.specs.Basics.{pick}
 use Rattle.rules.specs.LegPrices.{LegPrices, unpriced, priced, Range, tries, part}
 use Rattle.legprices.specs.Sums.{Span, reach}
@@ -46,6 +46,11 @@ is_priced (priced ps) = true
 abbrev pub first : ℕ → ℕ → (ℕ → Bool) → ℕ
 first zero x f = x
 first (suc n) x f = pick (f x) x (first n (suc x) f)
+
+-- the number that is the first up to an end, if that is not behind it
+abbrev pub IsFirst : Option ℕ → ℕ → ℕ → Type 0
+IsFirst None end f = f ≡ end + 1
+IsFirst (Some x) end f = (x ≡ f) × (x ≤ end)
 
 -- whether a price x above the bid of a leg leaves of a sum what the later legs can make
 abbrev pub fits : Bool → ℕ → ℕ → List Span → ℕ → ℕ → Bool

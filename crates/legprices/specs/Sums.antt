@@ -3,6 +3,7 @@ use Rattle.std.specs.Prelude.{◌≡◌, Bool, false, ◌&&◌, ◌||◌, List, 
 use Rattle.rules.specs.Strategy.{most_ratio}
 use Rattle.rules.specs.LegPrices.{most_wide}
 use Rattle.types.specs.View.{from}
+use Rattle.legprices.specs.declared.Ranges.{Ranges}
 
 -- a leg: each cent counts its ratio, and its prices are so many cents wide
 pub record Span : Type 0 where
@@ -22,20 +23,18 @@ reach (g ∷ gs) s = any_of (suc g.width) 0 (λ y. leb (g.ratio * y) s && reach 
 -- ---- legs in arrays
 
 -- the leg at a place
-abbrev pub span_at : List ℕ → List ℕ → ℕ → Span
-span_at ratios widths k = record { ratio = get_or ratios k 0; width = get_or widths k 0 }
+abbrev pub span_at : Ranges → ℕ → Span
+span_at r k = record { ratio = get_or r.ratios k 0; width = get_or r.widths k 0 }
 
--- the legs from place i on, of n
-abbrev pub spans_from : List ℕ → List ℕ → ℕ → ℕ → List Span
-spans_from ratios widths i n = from (span_at ratios widths) i n
+-- the legs from place i on
+abbrev pub spans_from : Ranges → ℕ → List Span
+spans_from r i = from (span_at r) i r.count
 
 -- at most four legs, with ratios and widths within their bounds
-pub record Spanned (ratios widths : List ℕ) (n : ℕ) : Type 0 where
-  pub few : n ≤ 4
-  pub ratios_sized : length ratios ≡ 4
-  pub widths_sized : length widths ≡ 4
-  pub ratio : (k : ℕ) → get_or ratios k 0 ≤ most_ratio
-  pub width : (k : ℕ) → get_or widths k 0 ≤ most_wide
+pub record Bounded (r : Ranges) : Type 0 where
+  pub few : r.count ≤ 4
+  pub ratio : (k : ℕ) → get_or r.ratios k 0 ≤ most_ratio
+  pub width : (k : ℕ) → get_or r.widths k 0 ≤ most_wide
 
 -- ---- tables of bits
 
@@ -52,6 +51,10 @@ abbrev pub table_at : ℕ → ℕ
 table_at i = (i - 1) * table_words
 
 -- a table for the legs from each place on but the first and the last: for the last two of three, and for the last three and the last two of four
-pub record Made (ratios widths : List ℕ) (n : ℕ) (bits : List ℕ) : Type 0 where
+pub record Made (r : Ranges) (bits : List ℕ) : Type 0 where
   pub sized : length bits ≡ 44
-  pub shown : (i : ℕ) → 1 ≤ i → i + 2 ≤ n → (s : ℕ) → s < table_words * 64 → stands bits (table_at i) s ≡ reach (spans_from ratios widths i n) s
+  pub shown : (i : ℕ) → 1 ≤ i → i + 2 ≤ r.count → (s : ℕ) → s < table_words * 64 → stands bits (table_at i) s ≡ reach (spans_from r i) s
+
+-- legs within their bounds, with their tables
+abbrev pub Ready : Ranges → List ℕ → Type 0
+Ready r bits = Bounded r × Made r bits

@@ -2,14 +2,14 @@
 ghost use Rattle.std.specs.Prelude.{◌≡◌, not, length};
 ghost use Rattle.rules.specs.Basics.{pick};
 ghost use Rattle.rules.specs.LegPrices.{priced, prices_taken};
-ghost use Rattle.state.specs.Layout.{WordsSized};
-ghost use Rattle.state.specs.View.{leg_count, legs_of};
+ghost use Rattle.state.specs.View.{legs_of};
 ghost use Rattle.quotes.specs.Ranges.{range_in};
 ghost use Rattle.records.specs.Records.{prices_from};
-ghost use Rattle.legprices.specs.Sums.{Spanned};
 ghost use Rattle.legprices.specs.Quoted.{quotes_now, price_used, is_near, Ranged};
 
+use crate::Ranges;
 use quotes::Range;
+use state::Words;
 use types::Quote;
 
 // ---- a record of the legs
@@ -26,29 +26,20 @@ fn price_used(buy: bool, r: Range) -> u64
     ensures { result ≡ price_used buy (range_in r) }
 {
     if uses_ask(buy, r.plus) {
-        number::wide(r.ask)
+        u64::from(r.ask)
     } else {
-        number::wide(r.bid)
+        u64::from(r.bid)
     }
 }
 
 // "Fills against legs show the prices taken": one more than there are legs, and the price of each.
-pub fn prices_taken(
-    words: &[u32],
-    buy: bool,
-    lowered: bool,
-    taken: u32,
-    prices: &mut [u64; 4],
-) -> u64
-    requires { WordsSized words.now × (length prices.old ≡ 4) }
+pub fn prices_taken(words: &Words, buy: bool, taken: Option<u32>, prices: &mut [u64; 4]) -> u64
     ensures { (length prices.new ≡ 4)
-        × (prices_from result prices.new ≡ priced (prices_taken buy (legs_of words.now) (quotes_now words.now buy lowered taken))) }
+        × (prices_from result prices.new ≡ priced (prices_taken buy (legs_of words.now) (quotes_now words.now buy taken))) }
 {
     let n = state::leg_count(words);
-    let mut k = 0;
-    while k < n {
-        prices[k] = price_used(buy, quotes::range_at(words, k, buy, lowered, taken));
-        k += 1;
+    for k in 0..n {
+        prices[k] = price_used(buy, quotes::range_at(words, k, buy, taken));
     }
     n as u64 + 1
 }
@@ -68,32 +59,27 @@ fn is_near(bid: u32, ask: u32) -> bool
     ask - bid <= Quote::MOST_WIDE
 }
 
-// The ranges of the legs in arrays, and whether all are near; where one is not, no entry's record has leg prices.
-pub fn ranges(
-    words: &[u32],
-    buy: bool,
-    lowered: bool,
-    taken: u32,
-    plus: &mut [u32; 4],
-    ratios: &mut [u32; 4],
-    bids: &mut [u32; 4],
-    widths: &mut [u32; 4],
-) -> bool
-    requires { WordsSized words.now × (length plus.old ≡ 4) × (length bids.old ≡ 4) × Spanned ratios.old widths.old (leg_count words.now) }
-    ensures { Ranged words.now buy lowered taken result plus.new ratios.new bids.new widths.new }
+// The ranges of the legs, if all are near; where one is not, no entry's record has leg prices.
+pub fn ranges(words: &Words, buy: bool, taken: Option<u32>) -> Option<Ranges>
+    ensures { Ranged words.now buy taken result }
 {
     let n = state::leg_count(words);
-    let mut k = 0;
-    while k < n {
-        let r = quotes::range_at(words, k, buy, lowered, taken);
-        if !is_near(r.bid, r.ask) {
-            return false;
+    let mut r = Ranges {
+        plus: [0; 4],
+        ratios: [0; 4],
+        bids: [0; 4],
+        widths: [0; 4],
+        count: n,
+    };
+    for k in 0..n {
+        let g = quotes::range_at(words, k, buy, taken);
+        if !is_near(g.bid, g.ask) {
+            return None;
         }
-        plus[k] = state::word_of(r.plus);
-        ratios[k] = r.ratio;
-        bids[k] = r.bid;
-        widths[k] = r.ask - r.bid;
-        k += 1;
+        r.plus[k] = state::word_of(g.plus);
+        r.ratios[k] = g.ratio;
+        r.bids[k] = g.bid;
+        r.widths[k] = g.ask - g.bid;
     }
-    true
+    Some(r)
 }

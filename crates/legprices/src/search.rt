@@ -5,11 +5,11 @@ ghost use Rattle.rules.specs.Prices.{most_cents};
 ghost use Rattle.rules.specs.Strategy.{most_ratio};
 ghost use Rattle.rules.specs.LegPrices.{search, most_wide};
 ghost use Rattle.records.specs.Records.{most_given, prices_from};
-ghost use Rattle.legprices.specs.Sums.{reach, spans_from, Spanned, Made};
+ghost use Rattle.legprices.specs.Sums.{reach, spans_from, Bounded, Ready};
 ghost use Rattle.legprices.specs.Ranges.{ranges_in};
-ghost use Rattle.legprices.specs.Found.{counts, found, least_paid, most_got, greatest, first, fits};
+ghost use Rattle.legprices.specs.Found.{counts, found, least_paid, most_got, greatest, first, IsFirst, fits};
 
-use crate::sums;
+use crate::{Ranges, sums};
 use types::Order;
 
 // One of two numbers.
@@ -38,31 +38,25 @@ struct Ends {
 }
 
 // Those of some legs.
-fn ends_of(plus: &[u32; 4], ratios: &[u32; 4], bids: &[u32; 4], widths: &[u32; 4], n: usize) -> Ends
-    requires { Spanned ratios.now widths.now n × (length plus.now ≡ 4) × (length bids.now ≡ 4) }
-    ensures { (result.paid ≡ least_paid (ranges_in plus.now ratios.now bids.now widths.now n)) × (result.paid ≤ 1000000000000)
-        × (result.got ≡ most_got (ranges_in plus.now ratios.now bids.now widths.now n)) × (result.got ≤ 1000000000000)
-        × (result.most ≡ greatest (spans_from ratios.now widths.now 0 n)) }
+fn ends_of(legs: &Ranges) -> Ends
+    requires { Bounded legs.now }
+    ensures { (result.paid ≡ least_paid (ranges_in legs.now)) × (result.paid ≤ 1000000000000)
+        × (result.got ≡ most_got (ranges_in legs.now)) × (result.got ≤ 1000000000000)
+        × (result.most ≡ greatest (spans_from legs.now 0)) }
 {
     let mut paid: u64 = 0;
     let mut got: u64 = 0;
     let mut most: u64 = 0;
-    let mut i = 0;
-    while i < n {
-        let up = state::is_set(plus[i]);
-        let ratio = number::wide(ratios[i]);
-        let bid = number::wide(bids[i]);
-        let width = number::wide(widths[i]);
+    for i in 0..legs.count {
+        let up = state::is_set(legs.plus[i]);
+        let ratio = u64::from(legs.ratios[i]);
+        let bid = u64::from(legs.bids[i]);
+        let width = u64::from(legs.widths[i]);
         paid += either(up, times(ratio, bid), 0);
         got += either(up, 0, times(ratio, bid + width));
         most += times(ratio, width);
-        i += 1;
     }
-    Ends {
-        paid: paid,
-        got: got,
-        most: most,
-    }
+    Ends { paid, got, most }
 }
 
 // ---- the lowest price of a leg
@@ -76,29 +70,19 @@ fn taken(plus: bool, ratio: u64, width: u64, x: u64) -> u64
 }
 
 // Whether the legs from place i on can make what a part of a sum leaves.
-fn leaves(
-    ratios: &[u32; 4],
-    widths: &[u32; 4],
-    n: usize,
-    bits: &[u64; 44],
-    i: usize,
-    part: u64,
-    s: u64,
-) -> bool
-    requires { Spanned ratios.now widths.now n × Made ratios.now widths.now n bits.now × (1 ≤ i) × (i ≤ n) }
-    ensures { result ≡ (leb part s && reach (spans_from ratios.now widths.now i n) (s - part)) }
+fn leaves(legs: &Ranges, bits: &[u64; 44], i: usize, part: u64, s: u64) -> bool
+    requires { Ready legs.now bits.now × (1 ≤ i) × (i ≤ legs.now.count) }
+    ensures { result ≡ (leb part s && reach (spans_from legs.now i) (s - part)) }
 {
     if s < part {
         return false;
     }
-    sums::reaches(ratios, widths, n, bits, i, s - part)
+    sums::reaches(legs, bits, i, s - part)
 }
 
-// The first price from `at` to `end` above the bid that fits, where the later legs start at place i, or else the one behind.
+// The first price from `at` to `end` above the bid that fits, where the later legs start at place i.
 fn first_from(
-    ratios: &[u32; 4],
-    widths: &[u32; 4],
-    n: usize,
+    legs: &Ranges,
     bits: &[u64; 44],
     i: usize,
     plus: bool,
@@ -107,20 +91,18 @@ fn first_from(
     at: u64,
     end: u64,
     s: u64,
-) -> u64
-    requires { Spanned ratios.now widths.now n × Made ratios.now widths.now n bits.now × (1 ≤ i) × (i ≤ n)
+) -> Option<u64>
+    requires { Ready legs.now bits.now × (1 ≤ i) × (i ≤ legs.now.count)
         × (ratio ≤ most_ratio) × (width ≤ most_wide) × (at ≤ end) × (end ≤ width) }
-    ensures { result ≡ first (end + 1 - at) at (fits plus ratio width (spans_from ratios.now widths.now i n) s) }
+    ensures { IsFirst result end (first (end + 1 - at) at (fits plus ratio width (spans_from legs.now i) s)) }
 {
-    let mut x = at;
-    while x <= end {
+    for x in at..end + 1 {
         let part = taken(plus, ratio, width, x);
-        if leaves(ratios, widths, n, bits, i, part, s) {
-            return x;
+        if leaves(legs, bits, i, part, s) {
+            return Some(x);
         }
-        x += 1;
     }
-    x
+    None
 }
 
 // The fewest cents that may do: with fewer, more is left than the later legs can make.
@@ -150,11 +132,9 @@ fn at_most(ratio: u64, width: u64, s: u64) -> u64
     s / ratio
 }
 
-// The lowest price of a leg above its bid that fits, where the later legs can make `rest`, or else the one behind its ask.
+// The lowest price of a leg above its bid that fits, where the later legs can make `rest`.
 fn lowest(
-    ratios: &[u32; 4],
-    widths: &[u32; 4],
-    n: usize,
+    legs: &Ranges,
     bits: &[u64; 44],
     i: usize,
     plus: bool,
@@ -162,97 +142,58 @@ fn lowest(
     width: u64,
     rest: u64,
     s: u64,
-) -> u64
-    requires { Spanned ratios.now widths.now n × Made ratios.now widths.now n bits.now × (1 ≤ i) × (i ≤ n)
-        × (ratio ≤ most_ratio) × (width ≤ most_wide) × (rest ≡ greatest (spans_from ratios.now widths.now i n)) }
-    ensures { result ≡ first (width + 1) 0 (fits plus ratio width (spans_from ratios.now widths.now i n) s) }
+) -> Option<u64>
+    requires { Ready legs.now bits.now × (1 ≤ i) × (i ≤ legs.now.count)
+        × (ratio ≤ most_ratio) × (width ≤ most_wide) × (rest ≡ greatest (spans_from legs.now i)) }
+    ensures { IsFirst result width (first (width + 1) 0 (fits plus ratio width (spans_from legs.now i) s)) }
 {
     let low = at_least(ratio, rest, s);
     let high = at_most(ratio, width, s);
     if high < low {
-        return width + 1;
+        return None;
     }
     let at = either(plus, low, width - high);
     let end = at + (high - low);
-    let x = first_from(ratios, widths, n, bits, i, plus, ratio, width, at, end, s);
-    if end < x {
-        return width + 1;
-    }
-    x
+    first_from(legs, bits, i, plus, ratio, width, at, end, s)
 }
 
 // ---- leg by leg
 
 // The first prices that make a sum: 0 where there are none, or one more than there are legs.
-fn found(
-    plus: &[u32; 4],
-    ratios: &[u32; 4],
-    bids: &[u32; 4],
-    widths: &[u32; 4],
-    n: usize,
-    bits: &[u64; 44],
-    most: u64,
-    sum: u64,
-    prices: &mut [u64; 4],
-) -> u64
-    requires { Spanned ratios.now widths.now n × Made ratios.now widths.now n bits.now × (length plus.now ≡ 4) × (length bids.now ≡ 4)
-        × (length prices.old ≡ 4) × (most ≡ greatest (spans_from ratios.now widths.now 0 n)) }
-    ensures { (length prices.new ≡ 4)
-        × (prices_from result prices.new ≡ found (ranges_in plus.now ratios.now bids.now widths.now n) sum) }
+fn found(legs: &Ranges, bits: &[u64; 44], most: u64, sum: u64, prices: &mut [u64; 4]) -> u64
+    requires { Ready legs.now bits.now × (most ≡ greatest (spans_from legs.now 0)) }
+    ensures { prices_from result prices.new ≡ found (ranges_in legs.now) sum }
 {
     let mut rest = most;
     let mut s = sum;
-    let mut i = 0;
-    while i < n {
-        let up = state::is_set(plus[i]);
-        let ratio = number::wide(ratios[i]);
-        let width = number::wide(widths[i]);
+    for i in 0..legs.count {
+        let up = state::is_set(legs.plus[i]);
+        let ratio = u64::from(legs.ratios[i]);
+        let width = u64::from(legs.widths[i]);
         rest -= times(ratio, width);
-        let x = lowest(ratios, widths, n, bits, i + 1, up, ratio, width, rest, s);
-        if width < x {
+        let Some(x) = lowest(legs, bits, i + 1, up, ratio, width, rest, s) else {
             return 0;
-        }
-        prices[i] = number::wide(bids[i]) + x;
+        };
+        prices[i] = u64::from(legs.bids[i]) + x;
         s -= taken(up, ratio, width, x);
-        i += 1;
     }
     if s == 0 {
-        return (n as u64) + 1;
+        return (legs.count as u64) + 1;
     }
     0
 }
 
 // The leg prices of a biased price, with the tables of these legs: 0 where there are none, or one more than there are legs.
-pub fn find(
-    plus: &[u32; 4],
-    ratios: &[u32; 4],
-    bids: &[u32; 4],
-    widths: &[u32; 4],
-    n: usize,
-    bits: &[u64; 44],
-    price: u64,
-    prices: &mut [u64; 4],
-) -> u64
-    requires { Spanned ratios.now widths.now n × Made ratios.now widths.now n bits.now × (length plus.now ≡ 4) × (length bids.now ≡ 4)
-        × (length prices.old ≡ 4) × (price ≤ most_given) }
+pub fn find(legs: &Ranges, bits: &[u64; 44], price: u64, prices: &mut [u64; 4]) -> u64
+    requires { Ready legs.now bits.now × (price ≤ most_given) }
     ensures { (length prices.new ≡ 4)
-        × (prices_from result prices.new ≡ search (ranges_in plus.now ratios.now bids.now widths.now n) most_cents price) }
+        × (prices_from result prices.new ≡ search (ranges_in legs.now) most_cents price) }
 {
-    let ends = ends_of(plus, ratios, bids, widths, n);
+    let ends = ends_of(legs);
     let paid = (Order::MOST_CENTS as u64) + ends.paid;
     let got = price + ends.got;
     if got < paid {
         return 0;
     }
-    found(
-        plus,
-        ratios,
-        bids,
-        widths,
-        n,
-        bits,
-        ends.most,
-        got - paid,
-        prices,
-    )
+    found(legs, bits, ends.most, got - paid, prices)
 }

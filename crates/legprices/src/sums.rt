@@ -1,9 +1,11 @@
 // The sums that the later legs can make, in tables of bits: made once, and looked into for every price.
-ghost use Rattle.std.specs.Prelude.{◌≡◌, [], ◌∷◌, ◌+◌, ◌-◌, ◌*◌, ◌≤◌, ◌<◌, eqb, length};
+ghost use Rattle.std.specs.Prelude.{◌≡◌, [], ◌∷◌, ◌+◌, ◌-◌, ◌*◌, ◌≤◌, ◌<◌, eqb};
 ghost use Rattle.rules.specs.Strategy.{most_ratio};
 ghost use Rattle.rules.specs.LegPrices.{most_wide};
-ghost use Rattle.legprices.specs.Sums.{reach, spans_from, Spanned, table_words, stands, table_at, Made};
+ghost use Rattle.legprices.specs.Sums.{reach, spans_from, Bounded, table_words, stands, table_at, Made, Ready};
 ghost use Rattle.legprices.specs.Tables.{Merged, Changed, moved, smeared, Shows};
+
+use crate::Ranges;
 
 // The words of a table, the bits of a word, and those of a table.
 const TABLE_WORDS: usize = 22;
@@ -22,14 +24,12 @@ fn merged(word: u64, low: u64, high: u64, m: usize) -> u64
 
 // Each sum of a table also with a more: from the top word down, so that the words below are still as they were.
 fn spread(bits: &mut [u64; 44], base: usize, words: usize, a: usize)
-    requires { (length bits.old ≡ 44) × (base + words ≤ 44) × (a < words * 64) }
+    requires { (base + words ≤ 44) × (a < words * 64) }
     ensures { Changed words base bits.old bits.new (moved (stands bits.old base) a) }
 {
     let q = a / WORD_BITS;
     let m = a % WORD_BITS;
-    let mut k = words;
-    while q + 1 < k {
-        k -= 1;
+    for k in (q + 1..words).rev() {
         let high = base + k - q;
         bits[base + k] = merged(bits[base + k], bits[high - 1], bits[high], m);
     }
@@ -45,13 +45,11 @@ fn size(x: u32) -> usize
 
 // Each sum of a table also with some cents of a leg more, up to its width, which is read bit by bit from the top: h is what was read.
 fn smear(bits: &mut [u64; 44], base: usize, words: usize, ratio: u32, width: u32)
-    requires { (length bits.old ≡ 44) × (base + words ≤ 44) × (ratio ≤ most_ratio) × (width ≤ most_wide) × (ratio * width < words * 64) }
+    requires { (base + words ≤ 44) × (ratio ≤ most_ratio) × (width ≤ most_wide) × (ratio * width < words * 64) }
     ensures { Changed words base bits.old bits.new (smeared (stands bits.old base) ratio width) }
 {
     let mut h: u32 = 0;
-    let mut k: u32 = 6;
-    while 0 < k {
-        k -= 1;
+    for k in (0..6u32).rev() {
         let next = width >> k;
         spread(bits, base, words, size(ratio * (next - h)));
         h = next;
@@ -60,52 +58,39 @@ fn smear(bits: &mut [u64; 44], base: usize, words: usize, ratio: u32, width: u32
 
 // The table of no leg: the sum 0 alone.
 fn clear(bits: &mut [u64; 44], base: usize)
-    requires { (length bits.old ≡ 44) × (base + table_words ≤ 44) }
+    requires { base + table_words ≤ 44 }
     ensures { Changed table_words base bits.old bits.new (λ s. eqb s 0) }
 {
-    let mut k = TABLE_WORDS;
-    while 1 < k {
-        k -= 1;
+    for k in (1..TABLE_WORDS).rev() {
         bits[base + k] = 0;
     }
     bits[base] = 1;
 }
 
-// The second table as the first.
-fn copy(bits: &mut [u64; 44])
-    requires { length bits.old ≡ 44 }
-    ensures { Changed table_words 0 bits.old bits.new (stands bits.old table_words) }
-{
-    let mut k = TABLE_WORDS;
-    while 0 < k {
-        k -= 1;
-        bits[k] = bits[TABLE_WORDS + k];
-    }
-}
-
 // The table of the last two legs. One leg makes at most 450, and two 900.
-fn last_two(ratios: &[u32; 4], widths: &[u32; 4], n: usize, bits: &mut [u64; 44])
-    requires { Spanned ratios.now widths.now n × (3 ≤ n) × (length bits.old ≡ 44) }
-    ensures { (length bits.new ≡ 44) × Shows bits.new (table_at (n - 2)) (spans_from ratios.now widths.now (n - 2) n) }
+fn last_two(legs: &Ranges, bits: &mut [u64; 44])
+    requires { Bounded legs.now × (3 ≤ legs.now.count) }
+    ensures { Shows bits.new (table_at (legs.now.count - 2)) (spans_from legs.now (legs.now.count - 2)) }
 {
+    let n = legs.count;
     let base = (n - 3) * TABLE_WORDS;
     clear(bits, base);
-    smear(bits, base, 8, ratios[n - 1], widths[n - 1]);
-    smear(bits, base, 15, ratios[n - 2], widths[n - 2]);
+    smear(bits, base, 8, legs.ratios[n - 1], legs.widths[n - 1]);
+    smear(bits, base, 15, legs.ratios[n - 2], legs.widths[n - 2]);
 }
 
 // The tables of some legs.
-pub fn make(ratios: &[u32; 4], widths: &[u32; 4], n: usize, bits: &mut [u64; 44])
-    requires { Spanned ratios.now widths.now n × (length bits.old ≡ 44) }
-    ensures { Made ratios.now widths.now n bits.new }
+pub fn make(legs: &Ranges, bits: &mut [u64; 44])
+    requires { Bounded legs.now }
+    ensures { Made legs.now bits.new }
 {
-    if n < 3 {
+    if legs.count < 3 {
         return;
     }
-    last_two(ratios, widths, n, bits);
-    if n == 4 {
-        copy(bits);
-        smear(bits, 0, TABLE_WORDS, ratios[1], widths[1]);
+    last_two(legs, bits);
+    if legs.count == 4 {
+        bits.copy_within(TABLE_WORDS..2 * TABLE_WORDS, 0);
+        smear(bits, 0, TABLE_WORDS, legs.ratios[1], legs.widths[1]);
     }
 }
 
@@ -114,7 +99,7 @@ fn alone(ratio: u32, width: u32, s: u64) -> bool
     requires { (ratio ≤ most_ratio) × (width ≤ most_wide) }
     ensures { result ≡ reach (record { ratio = ratio; width = width } ∷ []) s }
 {
-    let most = number::wide(ratio * width);
+    let most = u64::from(ratio * width);
     if most < s {
         return false;
     }
@@ -125,22 +110,15 @@ fn alone(ratio: u32, width: u32, s: u64) -> bool
 }
 
 // Whether the legs from place i on can make a sum; no leg makes 0.
-pub fn reaches(
-    ratios: &[u32; 4],
-    widths: &[u32; 4],
-    n: usize,
-    bits: &[u64; 44],
-    i: usize,
-    s: u64,
-) -> bool
-    requires { Spanned ratios.now widths.now n × Made ratios.now widths.now n bits.now × (1 ≤ i) × (i ≤ n) }
-    ensures { result ≡ reach (spans_from ratios.now widths.now i n) s }
+pub fn reaches(legs: &Ranges, bits: &[u64; 44], i: usize, s: u64) -> bool
+    requires { Ready legs.now bits.now × (1 ≤ i) × (i ≤ legs.now.count) }
+    ensures { result ≡ reach (spans_from legs.now i) s }
 {
-    if i == n {
+    if i == legs.count {
         return s == 0;
     }
-    if i + 1 == n {
-        return alone(ratios[i], widths[i], s);
+    if i + 1 == legs.count {
+        return alone(legs.ratios[i], legs.widths[i], s);
     }
     let at = s as usize;
     if TABLE_BITS <= at {

@@ -9,6 +9,7 @@ use borrow.Author.Tests.{eqb-true, eqb-false, eq-eqb}
 use lib.Dec.{eqb}
 use lib.ListN.{length, length-append, length-set, length-drop, take, drop, get_or, set}
 use lib.Seq.{length-take-le, take-take, get_or-take, get_or-set_same, get_or-set_other}
+use Rattle.std.specs.List.{CopiedTo}
 use Rattle.rules.specs.Basics.{pick, All}
 use Rattle.rules.specs.State.{State}
 use Rattle.rules.specs.Tape.{header_bytes, message_bytes}
@@ -26,32 +27,7 @@ use Rattle.feed.specs.Replies.{most_reply, after_records, replies_text, records_
 use Rattle.feed.proofs.RunLaws.{after-append, replies_append, records_append}
 use Rattle.output.specs.Counted.{counted}
 use Rattle.live.specs.declared.Total.{Total}
-use Rattle.live.specs.Lives.{IsRead, IsAnswered, IsMoved, IsRound, Lived, IsRun}
-
--- ---- bytes that move to the front
-
--- the first i bytes from an offset on stand at the front, and behind them nothing has changed
-pub record Moving (from i : ℕ) (lent input : List ℕ) : Type 0 where
-  pub sized : length input ≡ length lent
-  pub front : (j : ℕ) → j < i → get_or input j 0 ≡ get_or lent (from + j) 0
-  pub behind : (j : ℕ) → i ≤ j → get_or input j 0 ≡ get_or lent j 0
-
-pub moving_none : (from : ℕ) (lent : List ℕ) → Moving from 0 lent lent
-moving_none from lent = record { sized = refl; front = λ j h. absurd (omega (arith, h)); behind = λ j h. refl }
-
-pub moving_next : (from i : ℕ) (lent input : List ℕ) → i < length lent → Moving from i lent input → Moving from (i + 1) lent (set input i (get_or input (from + i) 0))
-moving_next from i lent input h m =
-    let x : ℕ = get_or input (from + i) 0 in
-    record {
-      sized = length-set input i x ∙ m.sized;
-      front =
-          λ j l.
-          elim (dec_lt j i) [
-            | yes y ↦ get_or-set_other input i j x 0 (λ e. omega (arith, e, y)) ∙ m.front j y
-            | no y ↦ let z : j ≡ i = omega (arith, l, y) in rw z (get_or-set_same input i x 0 (let s = m.sized in omega (arith, h, s)) ∙ m.behind (from + i) (omega arith))
-          ];
-      behind = λ j l. get_or-set_other input i j x 0 (λ e. omega (arith, e, l)) ∙ m.behind j (omega (arith, l));
-    }
+use Rattle.live.specs.Lives.{IsRead, IsAnswered, IsRound, Lived, IsRun}
 
 -- ---- page after page
 
@@ -116,21 +92,20 @@ round_over input input' left got s r h =
     }
 
 -- what is there is answered, and what is left moves to the front
-pub round_heard : (input mid input' : List ℕ) (left got : ℕ) (s s' : State) (k n : ℕ) (going : Bool) (rest : ℕ) → IsRead input mid left got → IsAnswered (take (left + got) mid) s s' k n going → IsMoved (message_bytes * k) (left + got) mid input' rest
-    → IsRound input input' left s s' (record { left = rest; answered = k; bytes = n; going = going })
-round_heard input mid input' left got s s' k n going rest r a m =
+pub round_heard : (input mid input' : List ℕ) (left got : ℕ) (s s' : State) (k n : ℕ) (going : Bool) → IsRead input mid left got → IsAnswered (take (left + got) mid) s s' k n going → length input' ≡ length mid → CopiedTo mid input' (message_bytes * k) 0 (left + got - message_bytes * k)
+    → IsRound input input' left s s' (record { left = left + got - message_bytes * k; answered = k; bytes = n; going = going })
+round_heard input mid input' left got s s' k n going r a same copied =
     let l : length (take (left + got) mid) ≡ left + got = length-take-le (left + got) mid r.inside in
     let i = r.inside in
     let z = r.sized in
-    let e = m.many in
     record {
       heard = take (left + got) mid;
       few = (omega (arith, l), omega (arith, l, i, z));
       first = take-take left (left + got) mid (omega arith) ∙ r.first;
       answered = a;
-      left = omega (arith, e, l);
-      rest = λ j h. m.each j h ∙ sym (get_or-take (left + got) mid (message_bytes * k + j) 0 (omega (arith, h, e)));
-      sized = m.sized ∙ z;
+      left = omega (arith, l);
+      rest = λ j h. let z : j - 0 ≡ j = omega arith in copied j 0 (omega arith) (omega (arith, h)) ∙ ap (λ (n : ℕ). get_or mid (message_bytes * k + n) 0) z ∙ sym (get_or-take (left + got) mid (message_bytes * k + j) 0 (omega (arith, h)));
+      sized = same ∙ z;
     }
 
 -- ---- read after read

@@ -2,23 +2,16 @@
 use Rattle.std.specs.Prelude.{◌≡◌, Bool, true, List, ℕ, ◌+◌, ◌-◌, ◌*◌, ◌≤◌, ◌<◌, length, take, get_or}
 use Rattle.rules.specs.Basics.{All}
 use Rattle.rules.specs.State.{State}
-use Rattle.rules.specs.Refusals.{least_room}
 use Rattle.rules.specs.Tape.{header_bytes, message_bytes}
 use Rattle.rules.specs.Run.{refused_opening, started, opening}
-use Rattle.state.specs.Layout.{Sized}
 use Rattle.state.specs.View.{state_of}
 use Rattle.state.specs.Lent.{Lent, LentMut}
-use Rattle.records.specs.Records.{width}
 use Rattle.tape.specs.View.{strategy_from}
 use Rattle.feed.specs.Replies.{after_records, replies_text, records_from, whole_records}
 use Rattle.output.specs.Counted.{counted}
 use Rattle.live.specs.declared.Burst.{Burst}
 use Rattle.live.specs.declared.Round.{Round}
 use Rattle.live.specs.declared.Total.{Total}
-
--- the slices of a state, a list of 2,000 places, and a page that has room for an answer when it is full
-abbrev pub Fits : List ℕ → List ℕ → List ℕ → List ℕ → Type 0
-Fits longs words list page = Sized longs words × (least_room * width ≤ length list) × (length page ≡ 896128)
 
 -- ---- one read
 
@@ -34,12 +27,6 @@ pub record IsAnswered (bytes : List ℕ) (s s' : State) (k n : ℕ) (going : Boo
   pub all : going ≡ true → k ≡ whole_records bytes
   pub state : s' ≡ after_records s (records_from k bytes)
   pub size : n ≡ counted (length (replies_text s (records_from k bytes)))
-
--- the bytes between two offsets stand at the front
-pub record IsMoved (from to : ℕ) (input input' : List ℕ) (r : ℕ) : Type 0 where
-  pub many : r ≡ to - from
-  pub each : (j : ℕ) → j < r → get_or input' j 0 ≡ get_or input (from + j) 0
-  pub sized : length input' ≡ length input
 
 -- what was left of a record, n bytes, and behind it what a read gave, is answered; what is left behind the last answered record stands at the front
 pub record IsRound (input input' : List ℕ) (n : ℕ) (s s' : State) (r : Round) : Type 0 where
@@ -73,9 +60,6 @@ Reads input left r = IsRead input.entry.now input.exit.now left r
 
 abbrev pub Answers : LentMut → LentMut → Lent → Burst → Type 0
 Answers longs words input r = IsAnswered input.entry.now (state_of longs.entry.now words.entry.now) (state_of longs.exit.now words.exit.now) r.answered r.bytes r.going
-
-abbrev pub Moves : ℕ → ℕ → LentMut → ℕ → Type 0
-Moves from to input r = IsMoved from to input.entry.now input.exit.now r
 
 abbrev pub Rounds : LentMut → LentMut → LentMut → ℕ → Round → Type 0
 Rounds longs words input left r = IsRound input.entry.now input.exit.now left (state_of longs.entry.now words.entry.now) (state_of longs.exit.now words.exit.now) r

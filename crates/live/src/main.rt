@@ -1,19 +1,16 @@
 // live: a copy of the engine over pipes. It reads a header and its legs on standard input and answers the opening; then it reads what message records there are and answers them at once, until the input ends.
 #![tactic(auto)]
 
-ghost use Rattle.std.specs.Prelude.{◌≡◌, ◌+◌, ◌*◌, ◌≤◌, ◌<◌, length};
-ghost use Rattle.rules.specs.Refusals.{least_room};
-ghost use Rattle.state.specs.Layout.{Sized};
-ghost use Rattle.records.specs.Records.{width};
-ghost use Rattle.live.specs.Lives.{Fits, Reads, Answers, Moves, Rounds, Lives, Runs};
+ghost use Rattle.std.specs.Prelude.{◌≤◌, ◌<◌, length};
+ghost use Rattle.live.specs.Lives.{Reads, Answers, Rounds, Lives, Runs};
 
 use feed::Cursor;
 use output::STDOUT;
 use records::Record;
-use state::State;
+use state::{Longs, State, Words};
 use std::io::{Read, Stdin};
 use tape::{Header, Section};
-use types::{Fill, Opening};
+use types::{Fill, Opening, Refusal};
 
 // The number by which the system knows standard input.
 const STDIN: i32 = 0;
@@ -31,6 +28,14 @@ const NUMBERS: usize = Record::NUMBERS * Fill::LEAST_ROOM;
 
 // A page is full behind so many bytes, and has room for an answer then: 6,001 lines of at most 128 bytes.
 const FULL: usize = 128_000;
+
+const PAGE: usize = 896_128;
+
+// Room for 1,820 records.
+const INPUT: usize = 65_520;
+
+// Room for a header and the legs that are kept.
+const HEAD: usize = HEADER + LEGS * LEG;
 
 // The answers to the whole records of an input: how many were given, how many bytes they have, and whether the system took them.
 #[derive(Clone, Copy)]
@@ -61,26 +66,22 @@ impl Total {
     pub const MOST_READS: u64 = 10_000_000_000_000_000;
 }
 
-// An empty page.
-fn blank_page() -> [u8; 896_128]
-    ensures { 896128 ≡ length result }
-{
-    [0; 896_128]
+// An empty page; this and the next are functions of their own, so that no proof spells their bytes out.
+fn blank_page() -> [u8; PAGE] {
+    [0; PAGE]
 }
 
-// Room for 1,820 records.
-fn blank_input() -> [u8; 65_520]
-    ensures { 65520 ≡ length result }
-{
-    [0; 65_520]
+// An empty input.
+fn blank_input() -> [u8; INPUT] {
+    [0; INPUT]
 }
 
 // ---- what is written
 
 // The answer to an opening; whether the system took it.
-fn say_opening(number: u32) -> bool {
+fn say_opening(opened: Result<(), Refusal>) -> bool {
     let mut line = [0u8; 128];
-    let n = text::put_opening(&mut line, number);
+    let n = text::put_opening(&mut line, types::number_in(opened));
     io::write_all(STDOUT, &line[..n])
 }
 
@@ -99,26 +100,22 @@ fn skip_leg() -> bool {
 
 // So many of them.
 fn skip_legs(count: usize) -> bool {
-    let mut left = count;
-    while 0 < left {
+    for _ in 0..count {
         if !skip_leg() {
             return false;
         }
-        left -= 1;
     }
     true
 }
 
 // The header, and the legs behind it, of which four are kept; whether all were there.
-fn read_opening(head: &mut [u8]) -> bool
-    requires { length head.old ≡ 136 }
-{
+fn read_opening(head: &mut [u8; HEAD]) -> bool {
     if io::read_full(STDIN, &mut head[0..HEADER]) < HEADER {
         return false;
     }
     let h = tape::header_of(head);
     let count = h.legcount as usize;
-    let kept = number::lesser_size(count, LEGS);
+    let kept = count.min(LEGS);
     let end = HEADER + LEG * kept;
     if io::read_full(STDIN, &mut head[HEADER..end]) < LEG * kept {
         return false;
@@ -132,10 +129,7 @@ fn read_opening(head: &mut [u8]) -> bool
 fn read_some(room: &mut [u8], mut stdin: Stdin) -> usize
     ensures { result ≤ length room.new }
 {
-    match stdin.read(room) {
-        Ok(got) => got,
-        Err(_) => 0,
-    }
+    stdin.read(room).unwrap_or(0)
 }
 
 // The same behind the bytes that are left of a record.
@@ -148,18 +142,18 @@ fn read_behind(input: &mut [u8], left: usize, stdin: Stdin) -> usize
 
 // The whole records of an input, answered through a page, which is handed to the system when it is full and behind the last record.
 fn answer_all(
-    longs: &mut [u64],
-    words: &mut [u32],
-    list: &mut [u64],
-    page: &mut [u8],
+    longs: &mut Longs,
+    words: &mut Words,
+    list: &mut [u64; NUMBERS],
+    page: &mut [u8; PAGE],
     input: &[u8],
 ) -> Burst
-    requires { Fits longs.old words.old list.old page.old }
     ensures { Answers longs words input result }
 {
     let count = input.len() / RECORD;
     let mut p = Cursor { position: 0, at: 0 };
     let mut bytes: u64 = 0;
+    // No `for`: a page has as many answers as fit, and `feed::run` counts them.
     while p.position < count {
         p = feed::run(longs, words, list, page, input, p, FULL);
         let end = p.at;
@@ -181,31 +175,17 @@ fn answer_all(
     }
 }
 
-// The bytes of an input between two offsets move to its front; how many they are.
-fn move_rest(input: &mut [u8], from: usize, to: usize) -> usize
-    requires { (from ≤ to) × (to ≤ length input.old) }
-    ensures { Moves from to input result }
-{
-    let n = to - from;
-    let mut i = 0;
-    while i < n {
-        input[i] = input[from + i];
-        i += 1;
-    }
-    n
-}
-
 // One read, behind the bytes that are left of a record, and the answers to every whole record that is there then.
 fn hear(
-    longs: &mut [u64],
-    words: &mut [u32],
-    list: &mut [u64],
-    page: &mut [u8],
-    input: &mut [u8],
+    longs: &mut Longs,
+    words: &mut Words,
+    list: &mut [u64; NUMBERS],
+    page: &mut [u8; PAGE],
+    input: &mut [u8; INPUT],
     left: usize,
     stdin: Stdin,
 ) -> Round
-    requires { Fits longs.old words.old list.old page.old × (left < length input.old) }
+    requires { left < 65520 }
     ensures { Rounds longs words input left result }
 {
     let got = read_behind(input, left, stdin);
@@ -222,9 +202,10 @@ fn hear(
     }
     let end = left + got;
     let b = answer_all(longs, words, list, page, &input[..end]);
-    let rest = move_rest(input, RECORD * b.answered, end);
+    let start = RECORD * b.answered;
+    input.copy_within(start..end, 0);
     Round {
-        left: rest,
+        left: end - start,
         answered: b.answered,
         bytes: b.bytes,
         going: b.going,
@@ -233,26 +214,23 @@ fn hear(
 
 // Read after read.
 fn listen(
-    longs: &mut [u64],
-    words: &mut [u32],
-    list: &mut [u64],
-    page: &mut [u8],
-    input: &mut [u8],
+    longs: &mut Longs,
+    words: &mut Words,
+    list: &mut [u64; NUMBERS],
+    page: &mut [u8; PAGE],
+    input: &mut [u8; INPUT],
     stdin: Stdin,
 ) -> Total
-    requires { Fits longs.old words.old list.old page.old × (length input.old ≡ 65520) }
     ensures { Lives longs words result }
 {
     let mut left = 0;
     let mut records: u64 = 0;
     let mut bytes: u64 = 0;
-    let mut reads: u64 = 0;
-    while reads < Total::MOST_READS {
+    for reads in 0..Total::MOST_READS {
         let t = hear(longs, words, list, page, input, left, stdin);
         left = t.left;
         records += t.answered as u64;
         bytes = output::count_up(bytes, t.bytes as usize);
-        reads += 1;
         if !t.going {
             return Total { records, bytes };
         }
@@ -261,8 +239,7 @@ fn listen(
 }
 
 // The same with a page and an input of its own.
-fn serve(longs: &mut [u64], words: &mut [u32], list: &mut [u64], stdin: Stdin) -> Total
-    requires { Sized longs.old words.old × (least_room * width ≤ length list.old) }
+fn serve(longs: &mut Longs, words: &mut Words, list: &mut [u64; NUMBERS], stdin: Stdin) -> Total
     ensures { Lives longs words result }
 {
     let mut page = blank_page();
@@ -271,13 +248,18 @@ fn serve(longs: &mut [u64], words: &mut [u32], list: &mut [u64], stdin: Stdin) -
 }
 
 // An opening, and the records behind it.
-fn run(longs: &mut [u64], words: &mut [u32], list: &mut [u64], head: &[u8], stdin: Stdin) -> Total
-    requires { Sized longs.old words.old × (least_room * width ≤ length list.old) }
+fn run(
+    longs: &mut Longs,
+    words: &mut Words,
+    list: &mut [u64; NUMBERS],
+    head: &[u8],
+    stdin: Stdin,
+) -> Total
     ensures { Runs longs words head.now result }
 {
-    let number = feed::open(longs, words, head);
-    let said = say_opening(number);
-    if said & (number == 0) {
+    let opened = feed::open(longs, words, head);
+    let said = say_opening(opened);
+    if said & opened.is_ok() {
         return serve(longs, words, list, stdin);
     }
     Total {
@@ -287,7 +269,7 @@ fn run(longs: &mut [u64], words: &mut [u32], list: &mut [u64], head: &[u8], stdi
 }
 
 fn main(rt: HostRuntime) {
-    let mut head = [0u8; HEADER + LEGS * LEG];
+    let mut head = [0u8; HEAD];
     if !read_opening(&mut head) {
         say_incomplete();
         return;

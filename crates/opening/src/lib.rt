@@ -4,43 +4,34 @@
 ghost use Rattle.std.specs.Prelude.{◌≡◌, ℕ, ◌≤◌, ◌<◌, get_or};
 ghost use Rattle.rules.specs.Strategy.{opening_refusal};
 ghost use Rattle.rules.specs.Run.{start_of};
+ghost use Rattle.types.specs.Refusals.{number_in};
 ghost use Rattle.types.specs.View.{no_leg, opening_of};
-ghost use Rattle.state.specs.Layout.{LongsSized, WordsSized, Sized};
 ghost use Rattle.state.specs.View.{state_of};
 ghost use Rattle.state.specs.Stores.{stores};
 ghost use Rattle.opening.specs.Opens.{IsOpened};
 ghost use Rattle.opening.specs.Stored.{HasSymbol, HasLeg, StoresLeg, NothingQuoted, count_stores, setting_stores, clock_stores};
 
-use state::{Auction, Book, Clock, Legs, Market, Settings};
+use state::{Auction, Book, Clock, Legs, Longs, Market, Settings, Words};
 use types::{Leg, Opening, Refusal};
 
 mod strategy;
 
 // ---- legs
 
-// A byte with more room.
-fn wide(byte: u8) -> u32
-    ensures { result ≡ byte }
-{
-    byte as u32
-}
-
 // A leg's symbol, a word for each byte.
-fn put_symbol(words: &mut [u32], k: usize, symbol: [u8; 21])
-    requires { WordsSized words.old × (k < 4) }
+fn put_symbol(words: &mut Words, k: usize, symbol: [u8; 21])
+    requires { k < 4 }
     ensures { HasSymbol k symbol words.old words.new }
 {
     let start = Legs::SYMBOLS + Legs::SYMBOL_BYTES * k;
-    let mut i: usize = 0;
-    while i < Legs::SYMBOL_BYTES {
-        words[start + i] = wide(symbol[i]);
-        i += 1;
+    for i in 0..Legs::SYMBOL_BYTES {
+        words[start + i] = u32::from(symbol[i]);
     }
 }
 
 // A leg.
-fn put_leg(words: &mut [u32], k: usize, leg: Leg)
-    requires { WordsSized words.old × (k < 4) }
+fn put_leg(words: &mut Words, k: usize, leg: Leg)
+    requires { k < 4 }
     ensures { StoresLeg k leg words.old words.new }
 {
     let symbol = leg.symbol;
@@ -51,34 +42,25 @@ fn put_leg(words: &mut [u32], k: usize, leg: Leg)
 }
 
 // All four places for legs, those beyond the count too.
-fn put_legs(words: &mut [u32], o: Opening)
-    requires { WordsSized words.old }
+fn put_legs(words: &mut Words, o: Opening)
     ensures { (k : ℕ) → k < 4 → HasLeg words.new k (get_or o.legs k no_leg) }
 {
-    let mut k: usize = 0;
-    while k < 4 {
+    for k in 0..4 {
         put_leg(words, k, o.legs[k]);
-        k += 1;
     }
 }
 
 // ---- the rest
 
 // "all leg sides absent".
-fn clear_quotes(words: &mut [u32])
-    requires { WordsSized words.old }
+fn clear_quotes(words: &mut Words)
     ensures { NothingQuoted words.old words.new }
 {
-    let mut i: usize = 0;
-    while i < 24 {
-        words[Market::BIDS + i] = 0;
-        i += 1;
-    }
+    words[Market::BIDS..Legs::SIDES].fill(0);
 }
 
 // The settings that are words.
-fn put_settings(words: &mut [u32], c: types::Settings)
-    requires { WordsSized words.old }
+fn put_settings(words: &mut Words, c: types::Settings)
     ensures { words.new ≡ stores words.old (setting_stores c) }
 {
     words[Settings::MINIMUM] = c.minimum;
@@ -91,8 +73,8 @@ fn put_settings(words: &mut [u32], c: types::Settings)
 }
 
 // "nothing open, no auction"; the leg count.
-fn put_counts(words: &mut [u32], count: usize)
-    requires { WordsSized words.old × (count ≤ 4) }
+fn put_counts(words: &mut Words, count: usize)
+    requires { count ≤ 4 }
     ensures { words.new ≡ stores words.old (count_stores count) }
 {
     words[Book::COUNT] = 0;
@@ -101,8 +83,7 @@ fn put_counts(words: &mut [u32], count: usize)
 }
 
 // The clock as it is set, and the settings that are longs.
-fn put_clock(longs: &mut [u64], c: types::Settings)
-    requires { LongsSized longs.old }
+fn put_clock(longs: &mut Longs, c: types::Settings)
     ensures { longs.new ≡ stores longs.old (clock_stores c) }
 {
     longs[Clock::NEXT] = c.first;
@@ -112,8 +93,8 @@ fn put_clock(longs: &mut [u64], c: types::Settings)
 }
 
 // The state that an accepted opening begins with.
-fn start(longs: &mut [u64], words: &mut [u32], o: Opening)
-    requires { Sized longs.old words.old × (opening_refusal (opening_of o) ≡ 0) }
+fn start(longs: &mut Longs, words: &mut Words, o: Opening)
+    requires { opening_refusal (opening_of o) ≡ 0 }
     ensures { state_of longs.new words.new ≡ start_of (opening_of o) }
 {
     put_legs(words, o);
@@ -125,17 +106,17 @@ fn start(longs: &mut [u64], words: &mut [u32], o: Opening)
 
 // ---- the opening
 
-// An opening: 0, and the slices hold its state; or the number that refuses it, 10 for slices that are no state's, and they are as they were.
-pub fn open(longs: &mut [u64], words: &mut [u32], o: Opening) -> u32
-    ensures { IsOpened longs words (opening_of o) result }
+// An opening: the slices hold its state; or the row that refuses it, that of a short list for slices that are no state's, and they are as they were.
+pub fn open(longs: &mut [u64], words: &mut [u32], o: Opening) -> Result<(), Refusal>
+    ensures { IsOpened longs words (opening_of o) (number_in result) }
 {
-    if !state::is_sized(longs, words) {
-        return Refusal::SHORT_LIST;
-    }
-    let number = strategy::refusal(o);
-    if 0 < number {
-        return number;
-    }
+    let Some(longs) = longs.as_mut_array() else {
+        return Err(Refusal::ShortList);
+    };
+    let Some(words) = words.as_mut_array() else {
+        return Err(Refusal::ShortList);
+    };
+    strategy::refusal(o)?;
     start(longs, words, o);
-    0
+    Ok(())
 }

@@ -2,11 +2,12 @@
 ghost use Rattle.std.specs.Prelude.{◌≡◌, ◌&&◌, ◌+◌, ◌≤◌, ◌<◌};
 ghost use Rattle.rules.specs.Basics.{all, between};
 ghost use Rattle.rules.specs.Strategy.{good_side, good_mpv, all_pairs, near_ratio, gcd, gcd_all, good_settings, opening_refusal};
+ghost use Rattle.types.specs.Refusals.{number_in};
 ghost use Rattle.types.specs.View.{leg_of, leg_at, settings_of, opening_of, from};
 ghost use Rattle.opening.specs.Asked.{LegMarked, PairMarked};
 
 use state::Clock;
-use types::{Amounts, Leg, Opening, Settings};
+use types::{Amounts, Leg, Opening, Refusal, Settings};
 
 // What the table asks of each leg: number 2, 3, 5 and 6.
 #[derive(Clone, Copy)]
@@ -17,12 +18,31 @@ struct LegMarks {
     sides: bool,
 }
 
+impl LegMarks {
+    // All of it.
+    const ALL: LegMarks = LegMarks {
+        symbol: true,
+        date: true,
+        ratio: true,
+        sides: true,
+    };
+}
+
 // What it asks of each two legs: number 4, twice, and 5.
 #[derive(Clone, Copy)]
 struct PairMarks {
     root: bool,
     symbol: bool,
     ratio: bool,
+}
+
+impl PairMarks {
+    // All of it.
+    const ALL: PairMarks = PairMarks {
+        root: true,
+        symbol: true,
+        ratio: true,
+    };
 }
 
 // "Ratios are 1 to 9".
@@ -60,7 +80,7 @@ fn keeps(leg: Leg) -> LegMarks
     }
 }
 
-// What both keep.
+// What both keep. Field by field here and in `both_hold`: as an array of flags they would be one function, but have numbers for names.
 fn both_keep(a: LegMarks, b: LegMarks) -> LegMarks
     ensures { (result.symbol ≡ (a.symbol && b.symbol)) × (result.date ≡ (a.date && b.date)) × (result.ratio ≡ (a.ratio && b.ratio)) × (result.sides ≡ (a.sides && b.sides)) }
 {
@@ -78,16 +98,9 @@ fn all_keep(o: Opening) -> LegMarks
     ensures { LegMarked (λ b p. b ≡ all p (opening_of o).legs) result }
 {
     let count = o.count;
-    let mut all = LegMarks {
-        symbol: true,
-        date: true,
-        ratio: true,
-        sides: true,
-    };
-    let mut at: usize = 0;
-    while at < count {
+    let mut all = LegMarks::ALL;
+    for at in 0..count {
         all = both_keep(all, keeps(o.legs[at]));
-        at += 1;
     }
     all
 }
@@ -132,34 +145,22 @@ fn later_hold(o: Opening, k: usize) -> PairMarks
 {
     let count = o.count;
     let leg = o.legs[k];
-    let mut all = PairMarks {
-        root: true,
-        symbol: true,
-        ratio: true,
-    };
-    let mut at = k + 1;
-    while at < count {
+    let mut all = PairMarks::ALL;
+    for at in k + 1..count {
         all = both_hold(all, holds(leg, o.legs[at]));
-        at += 1;
     }
     all
 }
 
-// What holds between every two legs.
+// What holds between every two legs. A loop of `for`, not `all`: several marks are asked in one pass, each for a row of its own.
 fn pairs_hold(o: Opening) -> PairMarks
     requires { o.count ≤ 4 }
     ensures { PairMarked (λ b q. b ≡ all_pairs q (opening_of o).legs) result }
 {
     let count = o.count;
-    let mut all = PairMarks {
-        root: true,
-        symbol: true,
-        ratio: true,
-    };
-    let mut at: usize = 0;
-    while at < count {
+    let mut all = PairMarks::ALL;
+    for at in 0..count {
         all = both_hold(all, later_hold(o, at));
-        at += 1;
     }
     all
 }
@@ -177,9 +178,7 @@ fn gcd_all(o: Opening) -> u8
     ensures { result ≡ gcd_all (opening_of o).legs }
 {
     let mut divisor: u8 = 0;
-    let mut at = o.count;
-    while 0 < at {
-        at -= 1;
+    for at in (0..o.count).rev() {
         divisor = gcd(o.legs[at].ratio, divisor);
     }
     divisor
@@ -211,32 +210,32 @@ fn good_count(count: usize) -> bool
     (Opening::LEAST_LEGS <= count) & (count <= Opening::MOST_LEGS)
 }
 
-// The number that turns an opening back, 0 for none: "First that applies, reading down".
-pub fn refusal(o: Opening) -> u32
-    ensures { result ≡ opening_refusal (opening_of o) }
+// The row that turns an opening back: "First that applies, reading down".
+pub fn refusal(o: Opening) -> Result<(), Refusal>
+    ensures { number_in result ≡ opening_refusal (opening_of o) }
 {
     if !good_count(o.count) {
-        return 1;
+        return Err(Refusal::LegCount);
     }
     let legs = all_keep(o);
     if !legs.symbol {
-        return 2;
+        return Err(Refusal::Symbol);
     }
     if !legs.date {
-        return 3;
+        return Err(Refusal::Date);
     }
     let pairs = pairs_hold(o);
     if !(pairs.root & pairs.symbol) {
-        return 4;
+        return Err(Refusal::Roots);
     }
     if !(legs.ratio & pairs.ratio & (gcd_all(o) == 1)) {
-        return 5;
+        return Err(Refusal::Ratios);
     }
     if !legs.sides {
-        return 6;
+        return Err(Refusal::SideOrMpv);
     }
     if !good_settings(o.settings) {
-        return 7;
+        return Err(Refusal::Setting);
     }
-    0
+    Ok(())
 }

@@ -1,20 +1,17 @@
 // Document 01, "Tape", and M-102: what tapeprint prints, through a page.
 #![tactic(auto)]
 
-ghost use Rattle.std.specs.Prelude.{◌≡◌, ◌+◌, ◌*◌, ◌≤◌, length, drop};
+ghost use Rattle.std.specs.Prelude.{◌≡◌, ◌+◌, length, drop};
 ghost use Rattle.rules.specs.Tape.{messages_from};
 ghost use Rattle.rules.specs.Print.{title_line, lines_from};
-ghost use Rattle.rules.specs.Refusals.{least_room};
-ghost use Rattle.state.specs.Layout.{Sized};
 ghost use Rattle.state.specs.View.{state_of};
-ghost use Rattle.records.specs.Records.{width};
 ghost use Rattle.text.specs.Text.{line_text, lines_text};
 ghost use Rattle.session.specs.Lines.{tape_text};
 ghost use Rattle.output.specs.Counted.{counted};
 
 use records::Record;
 use session::{Cursor, Start};
-use state::State;
+use state::{Longs, State, Words};
 use types::Fill;
 
 // The numbers of 2,000 fill records.
@@ -23,23 +20,22 @@ const NUMBERS: usize = Record::NUMBERS * Fill::LEAST_ROOM;
 // A page is full behind so many bytes, and has room for a message then: 2,000 records and as many averages, of at most 128 bytes each.
 const FULL: usize = 128_000;
 
-// An empty page.
-fn blank_page() -> [u8; 640_000]
-    ensures { 640000 ≡ length result }
-{
-    [0; 640_000]
+const PAGE: usize = 640_000;
+
+// An empty page, made by a function of its own, so that no proof spells its bytes out.
+fn blank_page() -> [u8; PAGE] {
+    [0; PAGE]
 }
 
 // The title, the messages of a tape that is not turned back, and the last line; how many bytes they are.
 fn print_messages(
-    longs: &mut [u64],
-    words: &mut [u32],
-    list: &mut [u64],
-    page: &mut [u8],
+    longs: &mut Longs,
+    words: &mut Words,
+    list: &mut [u64; NUMBERS],
+    page: &mut [u8; PAGE],
     tape: &[u8],
     b: Start,
 ) -> u64
-    requires { Sized longs.old words.old × (least_room * width ≤ length list.old) × (length page.old ≡ 640000) }
     ensures { result ≡ counted (length (line_text title_line) + length (lines_text (lines_from 1 (state_of longs.old words.old) (messages_from b.count (drop b.at tape.now))))) }
 {
     let count = b.count;
@@ -50,6 +46,7 @@ fn print_messages(
         at,
     };
     let mut total: u64 = 0;
+    // No `for`: a page has as many messages as fit, and `session::run` counts them.
     while p.position < count {
         p = session::run(longs, words, list, page, tape, count, p, FULL);
         let end = p.at;
@@ -70,11 +67,12 @@ pub fn print_tape(tape: &[u8]) -> u64
     let mut longs = [0u64; State::LONGS];
     let mut words = [0u32; State::WORDS];
     let mut list = [0u64; NUMBERS];
-    let b = session::begin(&mut longs, &mut words, tape);
-    if b.number == 0 {
-        return print_messages(&mut longs, &mut words, &mut list, &mut page, tape, b);
+    match session::begin(&mut longs, &mut words, tape) {
+        Ok(b) => print_messages(&mut longs, &mut words, &mut list, &mut page, tape, b),
+        Err(row) => {
+            let n = session::put_refused(&mut page, 0, 0, u32::from(row));
+            let h = output::hand_over(&page[..n], 0);
+            h.bytes
+        }
     }
-    let n = session::put_refused(&mut page, 0, 0, b.number);
-    let h = output::hand_over(&page[..n], 0);
-    h.bytes
 }

@@ -2,11 +2,12 @@
 use Rattle.std.specs.Prelude.{◌≡◌, Bool, List, ℕ, ◌+◌, ◌*◌, ◌≤◌}
 use Rattle.rules.specs.Basics.{pick}
 use Rattle.rules.specs.Strategy.{Leg, is_b, most_ratio}
-use Rattle.rules.specs.Prices.{most_cents, Quote, used, national_used, units_shown}
+use Rattle.rules.specs.Prices.{most_cents, Side, Quote, used, national_used, units_shown}
 use Rattle.rules.specs.Filter.{LegPrice}
 use Rattle.state.specs.View.{leg_at, quote_at}
 use Rattle.quotes.specs.declared.Part.{Part}
 use Rattle.quotes.specs.declared.LegPrice.{LegPrice as Priced}
+use Rattle.quotes.specs.declared.Side.{Side as Shown}
 
 -- it holds of leg k and its quote
 abbrev pub OfLeg : List ℕ → ℕ → (Leg → Quote → Type 0) → Type 0
@@ -19,6 +20,10 @@ price_used national ask l q = pick national (national_used ask l q) (used ask l 
 -- a leg's price and MPV
 abbrev pub leg_price_of : Priced → LegPrice
 leg_price_of p = record { price = p.price; mpv = p.mpv }
+
+-- a side of a quote, by value
+abbrev pub side_of : Shown → Side
+side_of s = record { price = s.price; size = s.size }
 
 -- the greatest word
 abbrev pub most_word : ℕ

@@ -6,17 +6,19 @@ use Prim.Native.Nat.{ℕ, zero, suc, ◌+◌, ◌-◌, ◌*◌, ◌/◌, ◌≤�
 use native.Mathlib.Omega.{arith}
 use borrow.Author.Tests.{ne_eqb, lt-ltb}
 use lib.Dec.{eqb, ltb}
-use lib.ListN.{length, get_or, take, set, length-set, length-append}
+use lib.ListN.{length, get_or, take, drop, set, length-set, length-append}
 use lib.Seq.{get_or-set_same, get_or-set_other}
+use Rattle.std.proofs.lemmas.List.{get_or-take, get_or-drop}
 use Rattle.rules.specs.Basics.{pick}
 use Rattle.rules.specs.Prices.{cents, biased}
 use Rattle.rules.specs.Turn.{entry, Fill}
 use Rattle.rules.proofs.SignedLaws.{cents-biased}
 use Rattle.rules.specs.LegPrices.{LegPrices}
-use Rattle.types.specs.View.{leg_prices_of, held_legs, held_prices}
+use Rattle.types.specs.declared.Fill as F
+use Rattle.types.specs.View.{narrow, contra_from, leg_prices_of, held_legs, held_prices}
 use Rattle.types.proofs.TableLaws.{from_cons, from_end}
 use Rattle.state.proofs.TableLaws.{from-same, from-join}
-use Rattle.records.specs.Records.{narrow, most_given, contra_from, record_from, width, record_in, record_at, prices_from, prices_in, is_legs, number_at, Adds, AddsPriced, Prices}
+use Rattle.records.specs.Records.{most_given, record_from, width, record_in, record_at, prices_from, prices_in, is_legs, number_at, Holds, Adds, AddsPriced, Prices}
 
 -- ---- numbers stored one after another, from place b + k on
 
@@ -198,6 +200,22 @@ held_back (suc (suc (suc (suc (suc n))))) a b c d =
     take_all : (k : ℕ) → take {A = ℕ} k [] ≡ []
     take_all zero = refl
     take_all (suc k) = refl
+
+-- the numbers of a record cut out of a list, k of them
+pub cut_holds : (l : List ℕ) (j k : ℕ) (r : F.Fill) → k ≡ width → let n = take k (drop (j * width) l) in Holds (record_in n 0) (prices_in n 0) r → Holds (record_in l j) (prices_in l j) r
+cut_holds l j k r w h = (h.0 ∙ same, h.1 ∙ ap held_legs priced, h.2 ∙ ap held_prices priced)
+  where
+    here : (i : ℕ) → i < width → get_or (take k (drop (j * width) l)) i 0 ≡ get_or l (j * width + i) 0
+    here i q = get_or-take k (drop (j * width) l) i 0 (omega (arith, w)) ∙ get_or-drop (j * width) l i 0
+
+    first : get_or (take k (drop (j * width) l)) 0 0 ≡ get_or l (j * width) 0
+    first = let z : j * width + 0 ≡ j * width = omega arith in here 0 (omega arith) ∙ ap (λ (i : ℕ). get_or l i 0) z
+
+    same : record_in (take k (drop (j * width) l)) 0 ≡ record_in l j
+    same = λ i. record_from (first i) (here 1 (omega arith) i) (here 2 (omega arith) i) (here 3 (omega arith) i) (here 4 (omega arith) i) (here 5 (omega arith) i)
+
+    priced : prices_in (take k (drop (j * width) l)) 0 ≡ prices_in l j
+    priced = λ i. prices_from (here 6 (omega arith) i) (here 7 (omega arith) i ∷ here 8 (omega arith) i ∷ here 9 (omega arith) i ∷ here 10 (omega arith) i ∷ [])
 
 -- ---- the number of a contra
 

@@ -2,27 +2,15 @@
 use Rattle.std.specs.Prelude.{◌≡◌, Bool, true, false, List, [], ◌∷◌, ℕ, ◌+◌, ◌-◌, ◌*◌, ◌/◌, ◌≤◌, ◌<◌, min, eqb, ltb, length, get_or, take}
 use Rattle.rules.specs.Basics.{pick}
 use Rattle.rules.specs.Prices.{cents}
-use Rattle.rules.specs.Turn.{Rank, L, C, N, T, R, Contra, legs, entry, Fill}
+use Rattle.rules.specs.Turn.{Contra, legs, entry, Fill}
 use Rattle.rules.specs.LegPrices.{LegPrices, unpriced, priced}
 use Rattle.types.specs.declared.Fill as F
-use Rattle.types.specs.View.{from, fill_of, held_legs, held_prices}
+use Rattle.types.specs.View.{from, narrow, rank_from, contra_from, fill_of, held_legs, held_prices}
 use Rattle.state.specs.Lent.{LentMut}
-
--- a number of 32 bits
-abbrev pub narrow : ℕ → ℕ
-narrow n = min n 4_294_967_295
 
 -- the greatest biased price that a record gives
 abbrev pub most_given : ℕ
 most_given = 4_611_686_018_427_387_904
-
--- the rank of a number
-abbrev pub rank_from : ℕ → Rank
-rank_from n = pick (eqb n 0) L (pick (eqb n 1) C (pick (eqb n 2) N (pick (eqb n 3) T R)))
-
--- the contra of a number: 0 is the legs, another an id and 1
-abbrev pub contra_from : ℕ → Contra
-contra_from n = pick (eqb n 0) legs (entry (narrow (n - 1)))
 
 -- a record of six numbers
 abbrev pub record_from : ℕ → ℕ → ℕ → ℕ → ℕ → ℕ → Fill

@@ -5,10 +5,10 @@ ghost use Rattle.std.specs.Prelude.{◌≡◌, List, [], ◌∷◌, ℕ, ◌+◌
 ghost use Rattle.rules.specs.Basics.{pick};
 ghost use Rattle.rules.specs.Prices.{biased};
 ghost use Rattle.rules.specs.Turn.{entry};
-ghost use Rattle.types.specs.View.{rank_of, contra_of, held_legs};
-ghost use Rattle.records.specs.Records.{narrow, rank_from, contra_from, record_from, width, record_at, prices_from, prices_at, Holds, is_legs, number_at, Writes, Prices};
+ghost use Rattle.types.specs.View.{narrow, contra_from, held_legs};
+ghost use Rattle.records.specs.Records.{record_from, width, record_in, record_at, prices_from, prices_in, prices_at, Holds, is_legs, number_at, Writes, Prices};
 
-use types::{Contra, Fill, LegPrices, Rank};
+use types::{Contra, Fill, Rank};
 
 // A record in the list.
 #[derive(Drop)]
@@ -39,8 +39,8 @@ pub fn put_record(
 ) -> usize
     ensures { Writes list at result (record_from number order rank contra price units ∷ []) }
 {
-    if at < list.len() / 11 {
-        let b = at * 11;
+    if at < list.len() / Record::NUMBERS {
+        let b = at * Record::NUMBERS;
         list[b] = number;
         list[b + 1] = order as u64;
         list[b + 2] = rank as u64;
@@ -54,11 +54,10 @@ pub fn put_record(
 
 // The leg prices of the record at a place, if the list has it: 0 for none, or one more than there are, and four prices.
 pub fn put_prices(list: &mut [u64], j: usize, n: u64, prices: &[u64; 4])
-    requires { length prices.now ≡ 4 }
     ensures { Prices list.old j list.new (prices_from n prices.now) }
 {
-    if j < list.len() / 11 {
-        let b = j * 11;
+    if j < list.len() / Record::NUMBERS {
+        let b = j * Record::NUMBERS;
         list[b + 6] = n;
         list[b + 7] = prices[0];
         list[b + 8] = prices[1];
@@ -73,52 +72,15 @@ pub fn put_prices(list: &mut [u64], j: usize, n: u64, prices: &[u64; 4])
 fn narrowed(n: u64) -> u32
     ensures { result ≡ narrow n }
 {
-    if n < 4_294_967_295 {
-        n as u32
-    } else {
-        4_294_967_295
-    }
+    u32::try_from(n).unwrap_or(u32::MAX)
 }
 
-// The rank of a number.
-fn rank_from(n: u64) -> Rank
-    ensures { rank_of result ≡ rank_from n }
-{
-    if n == 0 {
-        return Rank::L;
-    }
-    if n == 1 {
-        return Rank::C;
-    }
-    if n == 2 {
-        return Rank::N;
-    }
-    if n == 3 {
-        return Rank::T;
-    }
-    Rank::R
-}
-
-// The contra of a number.
-fn contra_from(n: u64) -> Contra
-    ensures { contra_of result ≡ contra_from n }
-{
-    if n == 0 {
-        return Contra::Legs;
-    }
-    let id = narrowed(n - 1);
-    Contra::Entry(id)
-}
-
-// Of how many legs there are prices.
-fn legs_from(n: u64) -> LegPrices
+// Of how many legs there are prices, if there are any.
+fn legs_from(n: u64) -> Option<u32>
     ensures { (ps : List ℕ) → length ps ≡ 4 → result ≡ held_legs (prices_from n ps) }
 {
-    if n == 0 {
-        return LegPrices::Unpriced;
-    }
-    let count = number::lesser_long(n - 1, 4);
-    LegPrices::Priced(count as u32)
+    let count = n.checked_sub(1)?;
+    Some(narrowed(count.min(4)))
 }
 
 // The price of leg k, where there is one.
@@ -130,40 +92,25 @@ fn price_from(n: u64, k: u64, price: u64) -> u64
 }
 
 // A record of its numbers.
-fn fill_from(
-    number: u64,
-    order: u64,
-    rank: u64,
-    contra: u64,
-    price: u64,
-    units: u64,
-    n: u64,
-    p0: u64,
-    p1: u64,
-    p2: u64,
-    p3: u64,
-) -> Fill
-    ensures { Holds (record_from number order rank contra price units) (prices_from n (p0 ∷ p1 ∷ p2 ∷ p3 ∷ [])) result }
+fn fill_from(numbers: &[u64]) -> Fill
+    requires { length numbers.now ≡ width }
+    ensures { Holds (record_in numbers.now 0) (prices_in numbers.now 0) result }
 {
-    let named = narrowed(order);
-    let ranked = rank_from(rank);
-    let other = contra_from(contra);
-    let paid = price::cents(price);
-    let given = narrowed(units);
-    let legs = legs_from(n);
-    let q0 = price_from(n, 0, p0);
-    let q1 = price_from(n, 1, p1);
-    let q2 = price_from(n, 2, p2);
-    let q3 = price_from(n, 3, p3);
+    let n = numbers[6];
     Fill {
-        number,
-        order: named,
-        rank: ranked,
-        contra: other,
-        price: paid,
-        units: given,
-        legs: legs,
-        prices: [q0, q1, q2, q3],
+        number: numbers[0],
+        order: narrowed(numbers[1]),
+        rank: Rank::from(numbers[2]),
+        contra: Contra::from(numbers[3]),
+        price: price::cents(numbers[4]),
+        units: narrowed(numbers[5]),
+        legs: legs_from(n),
+        prices: [
+            price_from(n, 0, numbers[7]),
+            price_from(n, 1, numbers[8]),
+            price_from(n, 2, numbers[9]),
+            price_from(n, 3, numbers[10]),
+        ],
     }
 }
 
@@ -171,33 +118,21 @@ fn fill_from(
 pub fn fill_at(list: &[u64], j: usize) -> Fill
     ensures { Holds (record_at list.now j) (prices_at list.now j) result }
 {
-    if j < list.len() / 11 {
-        let b = j * 11;
-        return fill_from(
-            list[b],
-            list[b + 1],
-            list[b + 2],
-            list[b + 3],
-            list[b + 4],
-            list[b + 5],
-            list[b + 6],
-            list[b + 7],
-            list[b + 8],
-            list[b + 9],
-            list[b + 10],
-        );
+    if j < list.len() / Record::NUMBERS {
+        let b = j * Record::NUMBERS;
+        return fill_from(&list[b..b + Record::NUMBERS]);
     }
-    fill_from(0, 0, 0, 0, 0, 0, 0, 0, 0, 0, 0)
+    fill_from(&[0; Record::NUMBERS])
 }
 
-// ---- one number of a record
+// ---- one number of a record: a function for each that is asked for, by its name
 
 fn number_at(list: &[u64], j: usize, k: usize) -> u64
     requires { k < width }
     ensures { result ≡ number_at list.now j k }
 {
-    if j < list.len() / 11 {
-        return list[j * 11 + k];
+    if j < list.len() / Record::NUMBERS {
+        return list[j * Record::NUMBERS + k];
     }
     0
 }
@@ -220,7 +155,7 @@ pub fn order_at(list: &[u64], j: usize) -> u32
 pub fn price_at(list: &[u64], j: usize) -> u64
     ensures { result ≡ biased (record_at list.now j).price }
 {
-    number::lesser_long(number_at(list, j, 4), Fill::MOST_BIASED)
+    number_at(list, j, 4).min(Fill::MOST_BIASED)
 }
 
 // Its units.

@@ -1,17 +1,21 @@
--- A symbol's parts: where its capitals end, its numbers of two digits, a strike of zeros, and a month.
+-- A symbol's parts: where its capitals end, a strike of zeros, and a month.
 use mathlib.Core.Path.{◌≡◌, refl, sym, ap, ◌∙◌}
 use mathlib.Core.Bool.{Bool, true, false, ◌&&◌, not, and_assoc, or-false}
 use mathlib.Core.List.{List, [], ◌∷◌}
-use Prim.Native.Nat.{ℕ, zero, suc, ◌+◌, ◌-◌, ◌*◌, ◌≤◌, ◌<◌}
+use Prim.Native.Nat.{ℕ, zero, suc, ◌+◌, ◌-◌, ◌*◌, ◌≤◌}
 use native.Mathlib.Omega.{arith}
 use borrow.Author.Tests.{eqb-true, eq-eqb, ne_eqb, le-leb, lt-ltb}
 use lib.Dec.{eqb, ltb}
-use lib.ListN.{length, get_or, drop}
+use Rattle.std.proofs.Common.{Option, Some, None, cond}
+use Rattle.std.specs.List.{position_or_len}
+use Rattle.std.specs.Option.{unwrap_or}
+use Rattle.std.proofs.lemmas.Bool.{ltb-false}
+use lib.ListN.{length, drop}
 use Rattle.rules.specs.Basics.{between, all}
 use Rattle.rules.specs.Series.{is_capital, is_digit, is_space, is_padded, digits, month_of, good_root, good_date, good_type, good_strike, good_symbol}
 use Rattle.rules.proofs.TestLaws.{and_left, and_right, between_low, between_high}
 use Rattle.series.specs.Parts.{part}
-use Rattle.series.proofs.PartLaws.{part-cons, part_end, part-rest}
+use Rattle.series.proofs.PartLaws.{part-rest}
 
 -- tests that hold together are the same
 same_test : (x y : Bool) → (x ≡ true → y ≡ true) → (y ≡ true → x ≡ true) → x ≡ y
@@ -37,24 +41,30 @@ space_between (b ∷ bs) =
     in
     rw (e, space_between bs)
 
-module _ (s : List ℕ) (k : ℕ) (l : 6 ≤ length s) (h : k < 6) where
-  pub padded-go : is_capital (get_or s k 0) ≡ true → is_padded (part s k 6) ≡ is_padded (part s (k + 1) 6)
-  padded-go e =
-      let n : is_space (get_or s k 0) ≡ false = ne_eqb (get_or s k 0) 32 (λ z. omega (arith, between_low 65 (get_or s k 0) 90 e)) in
-      rw (part-cons s k 6 l h, e, n) (or-false (is_padded (part s (k + 1) 6)))
+-- where capitals end, spaces are left
+abbrev pub capitals_in : List ℕ → ℕ
+capitals_in bs = position_or_len (λ b. not (is_capital b)) bs
 
-  pub padded-stop : is_capital (get_or s k 0) ≡ false → is_padded (part s k 6) ≡ all is_space (part s k 6)
-  padded-stop e = rw (part-cons s k 6 l h, e)
+pub padded_is : (bs : List ℕ) → is_padded bs ≡ all is_space (drop (capitals_in bs) bs)
+padded_is [] = refl
+padded_is (b ∷ bs) = by-head b bs (is_capital b) refl (padded_is bs)
+  where
+    by-head : (b : ℕ) (bs : List ℕ) (t : Bool) → is_capital b ≡ t → is_padded bs ≡ all is_space (drop (capitals_in bs) bs) → is_padded (b ∷ bs) ≡ all is_space (drop (capitals_in (b ∷ bs)) (b ∷ bs))
+    by-head b bs true e h =
+        let n : is_space b ≡ false = ne_eqb b 32 (λ z. omega (arith, between_low 65 b 90 e)) in
+        let z : 1 + capitals_in bs ≡ suc (capitals_in bs) = omega arith in
+        rw (e, n, z) (or-false (is_padded bs) ∙ h)
+    by-head b bs false e h = rw e refl
 
-pub padded_end : (s : List ℕ) (k : ℕ) → 6 ≤ k → is_padded (part s k 6) ≡ all is_space (part s k 6)
-padded_end s k h = rw (part_end s k 6 h)
+-- the place that was found, or else the end
+pub or_end : (o : Option ℕ) (k n : ℕ) → k ≤ n → o ≡ cond (ltb k n) (Some k) None → unwrap_or o n ≡ k
+or_end o k n l e = rw e (by-test (ltb k n) refl)
+  where
+    by-test : (t : Bool) → ltb k n ≡ t → unwrap_or (cond t (Some k) None) n ≡ k
+    by-test true h = refl
+    by-test false h = omega (arith, ltb-false k n h)
 
 -- ---- numbers
-
-pub digits_two : (s : List ℕ) (k : ℕ) → k + 2 ≤ length s → digits 0 (part s k (k + 2)) ≡ (get_or s k 0 - 48) * 10 + (get_or s (k + 1) 0 - 48)
-digits_two s k l =
-    let e : k + 1 + 1 ≡ k + 2 = omega arith in
-    rw (part-cons s k (k + 2) l (omega arith), part-cons s (k + 1) (k + 2) l (omega arith), part_end s (k + 1 + 1) (k + 2) (omega arith)) (omega arith)
 
 -- digits write 0 where each is 0
 digits-zero : (bs : List ℕ) (n : ℕ) → all is_digit bs ≡ true → ltb 0 (digits n bs) ≡ not (eqb n 0 && all (λ b. between 48 b 48) bs)

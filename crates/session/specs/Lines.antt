@@ -1,5 +1,5 @@
 -- The lines of a tape's messages, and what is made of the lent slices and of the output: by a tape's opening, by one message, by one after another.
-use Rattle.std.specs.Prelude.{◌≡◌, List, [], ◌∷◌, ◌++◌, ℕ, zero, suc, ◌+◌, ◌-◌, ◌≤◌, ◌<◌, max, eqb, length, drop}
+use Rattle.std.specs.Prelude.{◌≡◌, List, [], ◌∷◌, ◌++◌, ℕ, zero, suc, ◌+◌, ◌-◌, ◌≤◌, ◌<◌, max, eqb, length, drop, Result, IfOk}
 use Rattle.rules.specs.Basics.{pick}
 use Rattle.rules.specs.Strategy.{opening_refusal}
 use Rattle.rules.specs.Messages.{Message}
@@ -9,6 +9,8 @@ use Rattle.rules.specs.Step.{step}
 use Rattle.rules.specs.Run.{opening, Sent, after}
 use Rattle.rules.specs.Tape.{header_of, messages_from, tape_refusal, strategy_of}
 use Rattle.rules.specs.Print.{Line, record_lines, refused_lines, lines_of}
+use Rattle.types.specs.declared.Refusal.{Refusal}
+use Rattle.types.specs.Refusals.{number_in}
 use Rattle.state.specs.View.{state_of}
 use Rattle.state.specs.Lent.{Lent, LentMut}
 use Rattle.opening.specs.Opens.{opened_by}
@@ -57,13 +59,12 @@ most_text = 512000
 
 -- ---- a tape begins
 
--- the number that turns back the tape, or else its opening's; the message count and where the first one starts; where the tape is not turned back the slices hold the state that its opening begins with, and with a number above 0 they are as they were
-pub record Begins (longs words tape longs' words' : List ℕ) (r : Start) : Type 0 where
-  pub number : r.number ≡ pick (eqb (tape_refusal tape) 0) (opening_refusal (strategy_of tape)) (tape_refusal tape)
-  pub count : r.count ≡ (header_of tape).message_count
-  pub at : r.at ≡ (header_of tape).message_offset
-  pub opened : tape_refusal tape ≡ 0 → opened_by r.number (state_of longs' words') ≡ opening (strategy_of tape)
-  pub refused : 0 < r.number → (longs' ≡ longs) × (words' ≡ words)
+-- the number that turns back the tape, or else its opening's; where there is none, the message count and where the first one starts; where the tape is not turned back the slices hold the state that its opening begins with, and with a number above 0 they are as they were
+pub record Begins (longs words tape longs' words' : List ℕ) (r : Result Start Refusal) : Type 0 where
+  pub number : number_in r ≡ pick (eqb (tape_refusal tape) 0) (opening_refusal (strategy_of tape)) (tape_refusal tape)
+  pub start : IfOk r (λ b. (b.count ≡ (header_of tape).message_count) × (b.at ≡ (header_of tape).message_offset))
+  pub opened : tape_refusal tape ≡ 0 → opened_by (number_in r) (state_of longs' words') ≡ opening (strategy_of tape)
+  pub refused : 0 < number_in r → (longs' ≡ longs) × (words' ≡ words)
 
 -- ---- a message
 
@@ -90,7 +91,7 @@ pub record Runs (tape : List ℕ) (n : ℕ) (p : Cursor) (most : ℕ) (s : State
 
 -- ---- the same said of the lent slices, for contracts
 
-abbrev pub IsBegun : LentMut → LentMut → Lent → Start → Type 0
+abbrev pub IsBegun : LentMut → LentMut → Lent → Result Start Refusal → Type 0
 IsBegun longs words tape r = Begins longs.entry.now words.entry.now tape.entry.now longs.exit.now words.exit.now r
 
 abbrev pub Tells : LentMut → LentMut → LentMut → LentMut → ℕ → ℕ → Message → ℕ → Type 0

@@ -5,18 +5,17 @@ ghost use Rattle.std.specs.Prelude.{List, ℕ, ◌*◌, ◌≤◌, length};
 ghost use Rattle.rules.specs.Refusals.{least_room};
 ghost use Rattle.rules.specs.Print.{title_line, refused_line, closing, refused_lines};
 ghost use Rattle.types.specs.View.{message_of, outcome_of};
-ghost use Rattle.state.specs.Layout.{WordsSized, Sized};
 ghost use Rattle.state.specs.View.{state_of};
 ghost use Rattle.records.specs.Records.{width};
 ghost use Rattle.text.specs.Outputs.{most_line, PutsLine, PutsLines};
 ghost use Rattle.session.specs.Lines.{IsBegun, Tells, IsRun};
 
-use types::{Fill, Message, Outcome};
+use state::{Longs, Words};
+use types::{Fill, Message, Outcome, Refusal};
 
-// How a tape begins: the number that turns back the tape or its opening, or 0, how many messages there are, and where the first one starts.
+// How a tape begins: how many messages there are, and where the first one starts.
 #[derive(Clone, Copy)]
 pub struct Start {
-    pub number: u32,
     pub count: usize,
     pub at: usize,
 }
@@ -31,24 +30,17 @@ pub struct Cursor {
 
 // ---- a tape begins
 
-// The opening of a tape that is not turned back, stored in the slices.
-pub fn begin(longs: &mut [u64], words: &mut [u32], tape: &[u8]) -> Start
-    requires { Sized longs.old words.old }
+// The opening of a tape, stored in the slices; or the row that turns back the tape or its opening.
+pub fn begin(longs: &mut Longs, words: &mut Words, tape: &[u8]) -> Result<Start, Refusal>
     ensures { IsBegun longs words tape result }
 {
+    tape::refusal(tape)?;
+    opening::open(longs, words, tape::strategy_of(tape))?;
     let h = tape::header_of(tape);
-    let count = h.messagecount as usize;
-    let at = h.messageoffset as usize;
-    let number = tape::refusal(tape);
-    if 0 < number {
-        return Start { number, count, at };
-    }
-    let opened = opening::open(longs, words, tape::strategy_of(tape));
-    Start {
-        number: opened,
-        count,
-        at,
-    }
+    Ok(Start {
+        count: h.messagecount as usize,
+        at: h.messageoffset as usize,
+    })
 }
 
 // ---- lines of an output, each as far as the output has room
@@ -72,8 +64,7 @@ pub fn put_refused(out: &mut [u8], at: usize, position: usize, number: u32) -> u
 }
 
 // "the last line counts open orders and responses".
-pub fn put_last(words: &[u32], out: &mut [u8], at: usize) -> usize
-    requires { WordsSized words.now }
+pub fn put_last(words: &Words, out: &mut [u8], at: usize) -> usize
     ensures { (longs : List ℕ) → PutsLine (closing (state_of longs words.now)) out at result }
 {
     let mut line = [0u8; 128];
@@ -88,28 +79,28 @@ pub fn put_last(words: &[u32], out: &mut [u8], at: usize) -> usize
 fn put_outcome(out: &mut [u8], at: usize, position: usize, o: Outcome) -> usize
     ensures { PutsLines (refused_lines position (outcome_of o)) most_line out at result }
 {
-    let start = number::lesser_size(at, out.len());
+    let start = at.min(out.len());
     match o {
         Outcome::Noted(n) => start,
         Outcome::Placed(u, n) => start,
         Outcome::Begun(t) => start,
         Outcome::Joined(u) => start,
         Outcome::Ended(c, n) => start,
-        Outcome::Refused(number) => put_refused(out, at, position, number),
+        Outcome::Refused(row) => put_refused(out, at, position, u32::from(row)),
     }
 }
 
 // A message at a tape position: its records and their averages, or the refused line.
 pub fn tell(
-    longs: &mut [u64],
-    words: &mut [u32],
+    longs: &mut Longs,
+    words: &mut Words,
     list: &mut [u64],
     out: &mut [u8],
     at: usize,
     position: usize,
     m: Message,
 ) -> usize
-    requires { Sized longs.old words.old × (least_room * width ≤ length list.old) }
+    requires { least_room * width ≤ length list.old }
     ensures { Tells longs words list out at position (message_of m) result }
 {
     let a = engine::step(longs, words, list, m, Fill::LEAST_ROOM);
@@ -122,8 +113,8 @@ pub fn tell(
 
 // The messages of a tape from an offset on, until all are told or the output is written past an offset.
 pub fn run(
-    longs: &mut [u64],
-    words: &mut [u32],
+    longs: &mut Longs,
+    words: &mut Words,
     list: &mut [u64],
     out: &mut [u8],
     tape: &[u8],
@@ -131,12 +122,13 @@ pub fn run(
     p: Cursor,
     most: usize,
 ) -> Cursor
-    requires { Sized longs.old words.old × (least_room * width ≤ length list.old) }
+    requires { least_room * width ≤ length list.old }
     ensures { IsRun longs words out tape count p most result }
 {
-    let mut at = number::lesser_size(p.at, out.len());
+    let mut at = p.at.min(out.len());
     let mut next = p.next;
     let mut position = p.position;
+    // No `for`: the position, handed back behind it, would be worked out anew as `p.position.max(count)`.
     while position < count {
         if most < at {
             return Cursor { position, next, at };

@@ -13,9 +13,9 @@ fn run(rt: &HostRuntime, n: u8) -> bool
     requires { n < 200 }
 {
     let path = [
-        48 + n / 100,
-        48 + n / 10 % 10,
-        48 + n % 10,
+        b'0' + n / 100,
+        b'0' + n / 10 % 10,
+        b'0' + n % 10,
         b'.',
         b't',
         b'a',
@@ -37,6 +37,7 @@ fn run(rt: &HostRuntime, n: u8) -> bool
 
 fn main(rt: HostRuntime) {
     let mut n: u8 = 0;
+    // No `for`: how many there were is printed behind the loop.
     while n < 200 && run(&rt, n) {
         n += 1;
     }

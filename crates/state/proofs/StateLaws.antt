@@ -155,3 +155,10 @@ sized_so longs words h = (
 
 pub sized_is : (longs words : List ℕ) → Sized longs words → is_sized longs words ≡ true
 sized_is longs words h = rw (eq-eqb (length longs) 71 h.0, eq-eqb (length words) 580 h.1) refl
+
+pub sized_not : (longs words : List ℕ) → (Sized longs words → ⊥) → is_sized longs words ≡ false
+sized_not longs words n = go (is_sized longs words) (λ e. n (sized_so longs words e))
+  where
+    go : (b : Bool) → (b ≡ true → ⊥) → b ≡ false
+    go true f = absurd (f refl)
+    go false f = refl

@@ -4,7 +4,6 @@
 
 ghost use Rattle.std.specs.Prelude.{◌≡◌};
 ghost use Rattle.rules.specs.State.{is_pending};
-ghost use Rattle.state.specs.Layout.{WordsSized, is_sized};
 ghost use Rattle.state.specs.View.{flag, open_count, leg_count};
 ghost use Rattle.state.specs.Lent.{Tells};
 
@@ -17,6 +16,11 @@ impl State {
 
     pub const WORDS: usize = 580;
 }
+
+// The slices of those sizes.
+pub type Longs = [u64; State::LONGS];
+
+pub type Words = [u32; State::WORDS];
 
 // The open orders and responses in arrival order, a column of 64 places for each field; the places in use are the first COUNT.
 #[derive(Drop)]
@@ -151,6 +155,7 @@ impl Clock {
 }
 
 // The numbers of the stages; every number above the last is a response too.
+// No enum: hosts keep the words, and every value of a word has a meaning.
 #[derive(Drop)]
 pub struct Stage {}
 
@@ -164,16 +169,9 @@ impl Stage {
     pub const RESPONSE: u32 = 3;
 }
 
-// Whether two slices are as long as a state's.
-pub fn is_sized(longs: &[u64], words: &[u32]) -> bool
-    ensures { result ≡ is_sized longs.now words.now }
-{
-    (longs.len() == State::LONGS) & (words.len() == State::WORDS)
-}
-
 // ---- words
 
-// A word as a flag.
+// A word as a flag; no `From`, since a word of any value but 0 is set.
 pub fn is_set(word: u32) -> bool
     ensures { result ≡ flag word }
 {
@@ -188,34 +186,21 @@ pub fn word_of(set: bool) -> u32
 }
 
 // How many entries are open, whatever the count.
-pub fn open_count(words: &[u32]) -> usize
-    requires { WordsSized words.now }
+pub fn open_count(words: &Words) -> usize
     ensures { result ≡ open_count words.now }
 {
-    let n = words[Book::COUNT];
-    if n < Book::MOST_ENTRIES as u32 {
-        n as usize
-    } else {
-        Book::MOST_ENTRIES
-    }
+    (words[Book::COUNT] as usize).min(Book::MOST_ENTRIES)
 }
 
-// How many legs there are, whatever the count.
-pub fn leg_count(words: &[u32]) -> usize
-    requires { WordsSized words.now }
+// How many legs there are, whatever the count; one line too, so that a function for both would say less.
+pub fn leg_count(words: &Words) -> usize
     ensures { result ≡ leg_count words.now }
 {
-    let n = words[Legs::COUNT];
-    if n < Legs::MOST as u32 {
-        n as usize
-    } else {
-        Legs::MOST
-    }
+    (words[Legs::COUNT] as usize).min(Legs::MOST)
 }
 
 // Whether an auction is pending.
-pub fn is_pending(words: &[u32]) -> bool
-    requires { WordsSized words.now }
+pub fn is_pending(words: &Words) -> bool
     ensures { Tells words (λ s. result ≡ is_pending s.auction) }
 {
     is_set(words[Auction::PENDING])

@@ -1,11 +1,12 @@
 // Document 01, "Tape": from bytes to an opening and messages. What is read past the end of a tape is 0.
 #![tactic(auto)]
 
-ghost use Rattle.std.specs.Prelude.{◌≡◌, min, ltb, pos, drop};
+ghost use Rattle.std.specs.Prelude.{◌≡◌, ltb, drop};
 ghost use Rattle.rules.specs.Basics.{pick};
-ghost use Rattle.rules.specs.Messages.{order, reduce};
+ghost use Rattle.rules.specs.Messages.{order, cancel, reduce};
 ghost use Rattle.rules.specs.Tape.{settings_of as settings_in, header_of as header_in, bytes_of, leg_of as leg_in, uses_of as uses_in, fields_of as fields_in, used_fields, local_of as local_in, national_of as national_in, terms_of, change_of as change_in, body_of as body_in, message_from, message_of as message_in, leg_section, message_section, is_misplaced, overlaps, is_damaged, is_kind, known_kinds, tape_refusal};
-ghost use Rattle.types.specs.declared.Body.TheVariants.{Order as sent_order, Reduce as sent_reduce};
+ghost use Rattle.types.specs.declared.Body.TheVariants.{Order as sent_order, Cancel as sent_cancel, Reduce as sent_reduce};
+ghost use Rattle.types.specs.Refusals.{number_in};
 ghost use Rattle.types.specs.View.{leg_of, settings_of, local_of, national_of, response_terms, change_of, body_of, message_of};
 ghost use Rattle.tape.specs.View.{header_of, uses_of, fields_of, Reads, section_of, offset_after};
 
@@ -195,7 +196,7 @@ const REDUCE: Uses = Uses {
     asksize: false,
 };
 
-// "A table of seven rows says which fields each kind uses", and an eighth since M-105.
+// "A table of seven rows says which fields each kind uses", and an eighth since M-105; a table here too, since document 01 speaks of it as one.
 const KINDS: [Uses; 8] = [
     LOCAL, NATIONAL, ORDER, RESPONSE, MODIFY, CANCEL, CLOCK, REDUCE,
 ];
@@ -205,26 +206,21 @@ pub fn uses_of(kind: u8) -> Uses
     ensures { uses_of result ≡ uses_in kind }
 {
     let rows = KINDS;
-    if kind <= Uses::LEAST_KIND {
-        return rows[0];
-    }
-    if Uses::MOST_KIND < kind {
-        return CLOCK;
-    }
     match kind {
+        0 | Fields::LOCAL => rows[0],
         Fields::NATIONAL => rows[1],
         Fields::ORDER => rows[2],
         Fields::RESPONSE => rows[3],
         Fields::MODIFY => rows[4],
         Fields::CANCEL => rows[5],
-        Fields::CLOCK => rows[6],
-        _ => rows[7],
+        Fields::REDUCE => rows[7],
+        _ => rows[6],
     }
 }
 
 // ---- messages
 
-// The fields of a message record. The fourth byte is an order's auction wish or a quote's leg; units and price are a quote's bid size and bid. Hosts hand it over.
+// The fields of a message record. The fourth byte is an order's auction wish or a quote's leg; units and price are a quote's bid size and bid. Hosts hand it over, so the kind is a byte.
 #[repr(C)]
 #[derive(Clone, Copy)]
 pub struct Fields {
@@ -279,211 +275,178 @@ pub fn fields_of(p: &[u8]) -> Fields
     }
 }
 
-// A field of one byte, if it is used.
-fn byte_if(used: bool, x: u8) -> u8
-    ensures { result ≡ pick used x 0 }
+// A field, if it is used, and else what stands for it.
+fn if_used<T: Copy>(used: bool, x: T, none: T) -> T
+    ensures { result ≡ pick used x none }
 {
-    if used { x } else { 0 }
-}
-
-// A number, if it is used.
-fn word_if(used: bool, x: u32) -> u32
-    ensures { result ≡ pick used x 0 }
-{
-    if used { x } else { 0 }
-}
-
-// A price, if it is used.
-fn cents_if(used: bool, x: i32) -> i32
-    ensures { result ≡ pick used x (pos 0) }
-{
-    if used { x } else { 0 }
+    if used { x } else { none }
 }
 
 // "others, and gaps, are ignored": a field that is not used reads as 0.
 fn used_fields(u: Uses, f: Fields) -> Fields
     ensures { fields_of result ≡ used_fields (uses_of u) (fields_of f) }
 {
-    let kind = f.kind;
-    let time = f.time;
     Fields {
-        kind,
-        side: byte_if(u.side, f.side),
-        account: byte_if(u.account, f.account),
-        wishorleg: byte_if(u.wishorleg, f.wishorleg),
-        id: word_if(u.id, f.id),
-        participant: word_if(u.participant, f.participant),
-        units: word_if(u.units, f.units),
-        price: cents_if(u.price, f.price),
-        ask: cents_if(u.ask, f.ask),
-        asksize: word_if(u.asksize, f.asksize),
-        time,
+        kind: f.kind,
+        side: if_used(u.side, f.side, 0),
+        account: if_used(u.account, f.account, 0),
+        wishorleg: if_used(u.wishorleg, f.wishorleg, 0),
+        id: if_used(u.id, f.id, 0),
+        participant: if_used(u.participant, f.participant, 0),
+        units: if_used(u.units, f.units, 0),
+        price: if_used(u.price, f.price, 0),
+        ask: if_used(u.ask, f.ask, 0),
+        asksize: if_used(u.asksize, f.asksize, 0),
+        time: f.time,
     }
 }
 
-// A local quote's fields.
-fn local_of(f: Fields) -> Local
-    ensures { local_of result ≡ local_in (fields_of f) }
-{
-    let leg = f.wishorleg;
-    let bidsize = f.units;
-    let bid = f.price;
-    let ask = f.ask;
-    let asksize = f.asksize;
-    Local {
-        leg,
-        bidsize,
-        bid,
-        ask,
-        asksize,
+// A local quote's fields. Here and below each is named: a record's fields and a body's are structs of their own, and `..` takes the rest from the same struct only.
+impl From<Fields> for Local {
+    ghost from_gives = { λ f quote. local_of quote ≡ local_in (fields_of f) };
+
+    fn from(f: Fields) -> Local {
+        Local {
+            leg: f.wishorleg,
+            bidsize: f.units,
+            bid: f.price,
+            ask: f.ask,
+            asksize: f.asksize,
+        }
     }
 }
 
 // A national quote's.
-fn national_of(f: Fields) -> National
-    ensures { national_of result ≡ national_in (fields_of f) }
-{
-    let leg = f.wishorleg;
-    let bid = f.price;
-    let ask = f.ask;
-    National { leg, bid, ask }
+impl From<Fields> for National {
+    ghost from_gives = { λ f quote. national_of quote ≡ national_in (fields_of f) };
+
+    fn from(f: Fields) -> National {
+        National {
+            leg: f.wishorleg,
+            bid: f.price,
+            ask: f.ask,
+        }
+    }
 }
 
 // An order's; "wish 0 no, otherwise yes".
-fn order_of(f: Fields) -> Order
-    ensures { body_of (sent_order result) ≡ order (terms_of (fields_of f)) (ltb 0 f.wishorleg) }
-{
-    let side = f.side;
-    let account = f.account;
-    let wish = 0 < f.wishorleg;
-    let id = f.id;
-    let participant = f.participant;
-    let units = f.units;
-    let price = f.price;
-    Order {
-        side,
-        account,
-        wish,
-        id,
-        participant,
-        units,
-        price,
+impl From<Fields> for Order {
+    ghost from_gives = { λ f sent. body_of (sent_order sent) ≡ order (terms_of (fields_of f)) (ltb 0 f.wishorleg) };
+
+    fn from(f: Fields) -> Order {
+        Order {
+            side: f.side,
+            account: f.account,
+            wish: 0 < f.wishorleg,
+            id: f.id,
+            participant: f.participant,
+            units: f.units,
+            price: f.price,
+        }
     }
 }
 
 // A response's.
-fn response_of(f: Fields) -> Response
-    ensures { response_terms result ≡ terms_of (fields_of f) }
-{
-    let side = f.side;
-    let account = f.account;
-    let id = f.id;
-    let participant = f.participant;
-    let units = f.units;
-    let price = f.price;
-    Response {
-        side,
-        account,
-        id,
-        participant,
-        units,
-        price,
+impl From<Fields> for Response {
+    ghost from_gives = { λ f sent. response_terms sent ≡ terms_of (fields_of f) };
+
+    fn from(f: Fields) -> Response {
+        Response {
+            side: f.side,
+            account: f.account,
+            id: f.id,
+            participant: f.participant,
+            units: f.units,
+            price: f.price,
+        }
     }
 }
 
 // A modification's.
-fn modify_of(f: Fields) -> Modify
-    ensures { change_of result ≡ change_in (fields_of f) }
-{
-    let side = f.side;
-    let id = f.id;
-    let participant = f.participant;
-    let units = f.units;
-    let price = f.price;
-    Modify {
-        side,
-        id,
-        participant,
-        units,
-        price,
+impl From<Fields> for Modify {
+    ghost from_gives = { λ f sent. change_of sent ≡ change_in (fields_of f) };
+
+    fn from(f: Fields) -> Modify {
+        Modify {
+            side: f.side,
+            id: f.id,
+            participant: f.participant,
+            units: f.units,
+            price: f.price,
+        }
+    }
+}
+
+// A cancellation's.
+impl From<Fields> for Cancel {
+    ghost from_gives = { λ f sent. body_of (sent_cancel sent) ≡ cancel f.id f.participant };
+
+    fn from(f: Fields) -> Cancel {
+        Cancel {
+            id: f.id,
+            participant: f.participant,
+        }
     }
 }
 
 // A reduction's; its units are "the new open units".
-fn reduce_of(f: Fields) -> Reduce
-    ensures { body_of (sent_reduce result) ≡ reduce f.id f.participant f.units }
-{
-    let id = f.id;
-    let participant = f.participant;
-    let units = f.units;
-    Reduce {
-        id,
-        participant,
-        units,
+impl From<Fields> for Reduce {
+    ghost from_gives = { λ f sent. body_of (sent_reduce sent) ≡ reduce f.id f.participant f.units };
+
+    fn from(f: Fields) -> Reduce {
+        Reduce {
+            id: f.id,
+            participant: f.participant,
+            units: f.units,
+        }
     }
 }
 
 // The body of a kind.
-fn body_of(f: Fields) -> Body
-    ensures { body_of result ≡ body_in (fields_of f) }
-{
-    let kind = f.kind;
-    if kind == Fields::LOCAL {
-        return Body::Local(local_of(f));
+impl From<Fields> for Body {
+    ghost from_gives = { λ f body. body_of body ≡ body_in (fields_of f) };
+
+    fn from(f: Fields) -> Body {
+        match f.kind {
+            Fields::LOCAL => Body::Local(Local::from(f)),
+            Fields::NATIONAL => Body::National(National::from(f)),
+            Fields::ORDER => Body::Order(Order::from(f)),
+            Fields::RESPONSE => Body::Response(Response::from(f)),
+            Fields::MODIFY => Body::Modify(Modify::from(f)),
+            Fields::CANCEL => Body::Cancel(Cancel::from(f)),
+            Fields::REDUCE => Body::Reduce(Reduce::from(f)),
+            _ => Body::Clock,
+        }
     }
-    if kind == Fields::NATIONAL {
-        return Body::National(national_of(f));
-    }
-    if kind == Fields::ORDER {
-        return Body::Order(order_of(f));
-    }
-    if kind == Fields::RESPONSE {
-        return Body::Response(response_of(f));
-    }
-    if kind == Fields::MODIFY {
-        return Body::Modify(modify_of(f));
-    }
-    if kind == Fields::CANCEL {
-        let id = f.id;
-        let participant = f.participant;
-        return Body::Cancel(Cancel { id, participant });
-    }
-    if kind == Fields::REDUCE {
-        return Body::Reduce(reduce_of(f));
-    }
-    Body::Clock
 }
 
 // The message that a record's fields make.
 pub fn message_from(f: Fields) -> Message
     ensures { message_of result ≡ message_from (fields_of f) }
 {
-    let row = uses_of(f.kind);
-    let used = used_fields(row, f);
-    let body = body_of(used);
-    let time = used.time;
-    Message { time, body }
+    let used = used_fields(uses_of(f.kind), f);
+    Message {
+        time: used.time,
+        body: Body::from(used),
+    }
 }
 
 // The message of the part of the tape that starts at its record.
 pub fn message_of(p: &[u8]) -> Message
     ensures { message_of result ≡ message_in p.now }
 {
-    let f = fields_of(p);
-    message_from(f)
+    message_from(fields_of(p))
 }
 
 // ---- legs
 
-// A leg's symbol.
+// A leg's symbol. Byte by byte, since a byte past the end is 0 and a part that is too short cannot be copied whole.
 fn symbol_of(p: &[u8]) -> [u8; 21]
     ensures { result ≡ bytes_of 21 p.now }
 {
     let mut s = [0u8; 21];
-    let mut i: usize = 0;
-    while i < 21 {
+    for i in 0..21 {
         s[i] = wire::byte_at(p, i as u32);
-        i += 1;
     }
     s
 }
@@ -503,7 +466,7 @@ pub fn leg_of(p: &[u8]) -> Leg
 
 // ---- sections
 
-// The bytes of a section: where they start, and how many they are.
+// The bytes of a section: where they start, and how many they are; no `Range`, since `section_of` and the rules' `is_misplaced` and `overlaps` speak of a start and a size.
 #[derive(Clone, Copy)]
 pub struct Section {
     pub start: u32,
@@ -573,60 +536,47 @@ fn is_damaged(t: &[u8]) -> bool
 pub fn is_kind(kind: u8) -> bool
     ensures { result ≡ is_kind kind }
 {
-    (Uses::LEAST_KIND <= kind) & (kind <= Uses::MOST_KIND)
+    (Uses::LEAST_KIND..=Uses::MOST_KIND).contains(&kind)
 }
 
 // Whether the kinds of so many message records are all known.
 fn known_kinds(t: &[u8], offset: u16, count: u16) -> bool
     ensures { result ≡ known_kinds count (drop offset t.now) }
 {
-    let mut at = offset as u32;
-    let mut left = count;
-    while 0 < left {
-        if !is_kind(wire::byte_at(t, at)) {
+    for i in 0..count as u32 {
+        if !is_kind(wire::byte_at(t, offset as u32 + i * Section::MESSAGE)) {
             return false;
         }
-        at += Section::MESSAGE;
-        left -= 1;
     }
     true
 }
 
-// The number that turns a tape back, 0 for none: 60 damaged; "61 any message's kind not below".
-pub fn refusal(t: &[u8]) -> u32
-    ensures { result ≡ tape_refusal t.now }
+// The row that turns a tape back: 60 damaged; "61 any message's kind not below".
+pub fn refusal(t: &[u8]) -> Result<(), Refusal>
+    ensures { number_in result ≡ tape_refusal t.now }
 {
     if is_damaged(t) {
-        return 60;
+        return Err(Refusal::Damaged);
     }
     let h = header_of(t);
     let known = known_kinds(t, h.messageoffset, h.messagecount);
-    if known { 0 } else { Refusal::NO_KIND }
+    if known { Ok(()) } else { Err(Refusal::Kind) }
 }
 
 // ---- parts of the tape
-
-// Where the part that starts at an offset of so many bytes begins: at their end at the latest.
-fn start_of(at: usize, bytes: usize) -> usize
-    ensures { result ≡ min at bytes }
-{
-    if at < bytes { at } else { bytes }
-}
 
 // The leg at an offset: "handed on as the part of the tape that starts at its offset".
 pub fn leg_at(tape: &[u8], at: usize) -> Leg
     ensures { leg_of result ≡ leg_in (drop at tape.now) }
 {
-    let start = start_of(at, tape.len());
-    leg_of(&tape[start..])
+    leg_of(&tape[at.min(tape.len())..])
 }
 
 // The message at an offset.
 pub fn message_at(tape: &[u8], at: usize) -> Message
     ensures { message_of result ≡ message_in (drop at tape.now) }
 {
-    let start = start_of(at, tape.len());
-    message_of(&tape[start..])
+    message_of(&tape[at.min(tape.len())..])
 }
 
 // The opening of a header and of legs that stand from an offset on: four are read, whatever the count. With more it is refused as the tape's own is.
@@ -682,12 +632,7 @@ fn offset_after(tape: &[u8], at: usize) -> usize
     ensures { result ≡ offset_after tape.now at }
 {
     let size = Section::MESSAGE as usize;
-    let bytes = tape.len();
-    let start = start_of(at, bytes);
-    if size <= bytes - start {
-        return start + size;
-    }
-    bytes
+    at.saturating_add(size).min(tape.len())
 }
 
 // The message at the reader's offset.
@@ -705,19 +650,13 @@ pub fn after<'a>(r: TapeReader<'a>) -> TapeReader<'a>
     TapeReader { tape: r.tape, at }
 }
 
-// What is taken, as a pair.
-fn with_next(message: Message, next: usize) -> Taken
-    ensures { (result.message ≡ message) × (result.next ≡ next) }
-{
-    Taken { message, next }
-}
-
 // The message at an offset, and the offset behind it.
 pub fn take_message(tape: &[u8], at: usize) -> Taken
     ensures { (message_of result.message ≡ message_in (drop at tape.now)) × (result.next ≡ offset_after tape.now at) }
 {
     let r = TapeReader { tape, at };
-    let message = current(r);
-    let next = after(r);
-    with_next(message, next.at)
+    Taken {
+        message: current(r),
+        next: after(r).at,
+    }
 }

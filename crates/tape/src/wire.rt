@@ -1,5 +1,5 @@
 // Document 01, "Tape": "Little-endian", "prices signed". Numbers at an offset of a lent slice; a byte past its end is 0.
-ghost use Rattle.std.specs.Prelude.{◌≡◌, ◌+◌, ◌*◌, ◌<◌, ◌^◌, negsuc, get_or};
+ghost use Rattle.std.specs.Prelude.{◌≡◌, ◌+◌, ◌*◌, ◌<◌, ◌^◌, get_or};
 ghost use Rattle.rules.specs.Tape.{half, word, long, signed};
 
 // ---- of bytes, the low one first
@@ -7,15 +7,13 @@ ghost use Rattle.rules.specs.Tape.{half, word, long, signed};
 fn half_of(low: u8, high: u8) -> u16
     ensures { result ≡ low + 256 * high }
 {
-    (low as u16) + 256 * (high as u16)
+    u16::from_le_bytes([low, high])
 }
 
 fn word_of(a: u8, b: u8, c: u8, d: u8) -> u32
     ensures { result ≡ a + 256 * b + 65536 * (c + 256 * d) }
 {
-    let low = half_of(a, b) as u32;
-    let high = half_of(c, d) as u32;
-    low + 65_536 * high
+    u32::from_le_bytes([a, b, c, d])
 }
 
 // ---- at an offset that leaves room for the bytes behind it
@@ -23,10 +21,7 @@ fn word_of(a: u8, b: u8, c: u8, d: u8) -> u32
 fn byte_in(s: &[u8], at: usize) -> u8
     ensures { result ≡ get_or s.now at 0 }
 {
-    if at < s.len() {
-        return s[at];
-    }
-    0
+    s.get(at).copied().unwrap_or(0)
 }
 
 // Where all bytes of a number are inside, one test serves for them.
@@ -94,22 +89,11 @@ pub fn long_at(s: &[u8], at: u32) -> u64
 
 // ---- signed
 
-// The number that is `below` under -1.
-fn under(below: u32) -> i32
-    requires { below < 2147483648 }
-    ensures { result ≡ negsuc below }
-{
-    -1 - (below as i32)
-}
-
 // The signed number that 32 bits stand for.
 pub fn signed_of(bits: u32) -> i32
     ensures { result ≡ signed bits }
 {
-    if bits < 2_147_483_648 {
-        return bits as i32;
-    }
-    under(4_294_967_295 - bits)
+    bits.cast_signed()
 }
 
 // The signed 32-bit number at an offset.

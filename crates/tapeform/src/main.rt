@@ -12,16 +12,18 @@ fn print_form(tape: &[u8], page: &mut [u8]) -> u64
     requires { 65535 ≤ length page.old }
     ensures { result ≡ counted (length (form_text tape.now)) }
 {
-    let w = form::write(tape, page);
-    if w.number == 0 {
-        let size = w.size;
-        let h = output::hand_over(&page[..size], 0);
-        return h.bytes;
+    match form::write(tape, page) {
+        Ok(size) => {
+            let h = output::hand_over(&page[..size], 0);
+            h.bytes
+        }
+        Err(row) => {
+            let mut line = [0u8; 128];
+            let n = text::put_refused(&mut line, 0, u32::from(row));
+            let h = output::hand_over(&line[..n], 0);
+            h.bytes
+        }
     }
-    let mut line = [0u8; 128];
-    let n = text::put_refused(&mut line, 0, w.number);
-    let h = output::hand_over(&line[..n], 0);
-    h.bytes
 }
 
 fn main() {

@@ -1,7 +1,7 @@
 -- The leg prices of a list's records, put behind each of them.
 use mathlib.Core.Path.{◌≡◌, refl, ap, ap₂, sym, ◌∙◌}
 use mathlib.Core.Bool.{Bool, true, false}
-use mathlib.Core.List.{List, [], ◌∷◌, ◌++◌, append-nil, append_assoc}
+use mathlib.Core.List.{List, [], ◌∷◌, ◌++◌, append-nil, append_assoc, map}
 use Prim.Native.Nat.{ℕ, suc, ◌+◌, ◌-◌, ◌*◌, ◌/◌, ◌≤◌, ◌<◌, min}
 use native.Mathlib.Omega.{arith}
 use borrow.Author.Tests.{lt-ltb}
@@ -20,7 +20,9 @@ use Rattle.types.proofs.TableLaws.{from_end, from_last, from-length}
 use Rattle.state.proofs.TableLaws.{from-same}
 use Rattle.records.specs.Records.{width, record_at, prices_from, prices_in, prices_at, Holds}
 use Rattle.average.specs.Sums.{first_records}
-use Rattle.text.specs.Text.{digits, spaced, line_text, lines_text}
+use Rattle.text.specs.Text.{digits, after, spaced, legs_text, line_text, lines_text}
+use Rattle.text.specs.Ascii.{ascii}
+use Rattle.text.proofs.SetsLaws.{take_least}
 use Rattle.text.specs.Prices.{first_prices}
 use Rattle.text.specs.Outputs.{most_line, Puts}
 use Rattle.text.proofs.PutsLaws.{puts_none, lines_append, lines_then, one_line}
@@ -36,6 +38,18 @@ one_price ps i h =
     let z : i + 1 ≡ suc i = omega arith in
     ap (λ (k : ℕ). spaced (take k ps)) z ∙ ap spaced (take-suc ps i 0 h) ∙ spaced-append (take i ps) (get_or ps i 0 ∷ [])
     ∙ ap (λ (t : List ℕ). spaced (take i ps) ++ (32 ∷ t)) (append-nil (digits (get_or ps i 0)))
+
+-- numbers as the words behind the first
+pub spaced_after : (ns : List ℕ) → spaced ns ++ after [] ≡ after (map digits ns)
+spaced_after [] = refl
+spaced_after (n ∷ ns) = ap (λ (t : List ℕ). 32 ∷ t) (append_assoc (digits n) (spaced ns) (after []) ∙ ap (λ (t : List ℕ). digits n ++ t) (spaced_after ns))
+
+-- the prices of the first n legs, at most four
+pub legs_priced : (ps : List ℕ) (n m : ℕ) → length ps ≡ 4 → m ≡ min n 4 → ascii "legs" ++ after (map digits (take m ps)) ≡ legs_text (priced (take n ps))
+legs_priced ps n m l e =
+    ap (λ (k : ℕ). ascii "legs" ++ after (map digits (take k ps))) e
+    ∙ ap (λ (qs : List ℕ). ascii "legs" ++ after (map digits qs)) (take_least ps n 4 (sym l))
+    ∙ ap (λ (t : List ℕ). ascii "legs" ++ t) (sym (spaced_after (take n ps)))
 
 -- ---- a record's leg prices, as a struct holds them
 

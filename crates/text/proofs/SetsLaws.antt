@@ -1,11 +1,13 @@
 -- Bytes written from an offset of a list on, as far as it reaches.
 use mathlib.Core.Path.{◌≡◌, refl, ap, sym, ◌∙◌}
-use mathlib.Core.List.{List, [], ◌∷◌, ◌++◌}
-use Prim.Native.Nat.{ℕ, zero, suc, ◌+◌, ◌-◌, ◌≤◌, ◌<◌, min}
+use mathlib.Core.List.{List, [], ◌∷◌, ◌++◌, append_assoc}
+use Prim.Native.Nat.{ℕ, zero, suc, ◌+◌, ◌-◌, ◌≤◌, min}
 use native.Mathlib.Decide.{dec_lt}
 use native.Mathlib.Omega.{arith}
-use lib.ListN.{length, set, get_or, take, drop}
-use lib.Seq.{sets, take_all}
+use lib.ListN.{length, set, take, drop}
+use lib.Seq.{sets, sets-eq, length-sets, take_all, drop-drop}
+use borrow.Rule.Slice.PartMut.{put_mid}
+use Rattle.std.proofs.lemmas.List.{take-append-drop, length-take-le, take-take}
 
 set_past : (l : List ℕ) (k x : ℕ) → length l ≤ k → set l k x ≡ l
 set_past [] k x h = refl
@@ -30,13 +32,6 @@ sets_least xs l k n e =
       | no h ↦ sets_past xs l (min k n) (omega (arith, h)) ∙ sym (sets_past xs l k (omega (arith, h)))
     ]
 
--- the next byte of the first n
-pub next_byte : (l : List ℕ) (i n : ℕ) → i < n → n ≤ length l → drop i (take n l) ≡ get_or l i 0 ∷ drop (i + 1) (take n l)
-next_byte l i zero h m = absurd (omega arith)
-next_byte [] i (suc n) h m = absurd (omega arith)
-next_byte (x ∷ l) zero (suc n) h m = refl
-next_byte (x ∷ l) (suc i) (suc n) h m = let z : suc i + 1 ≡ suc (i + 1) = omega arith in rw z (next_byte l i n (omega arith) (omega arith))
-
 -- after the n bytes none is left
 none_after : (l : List ℕ) (n : ℕ) → drop n (take n l) ≡ []
 none_after l zero = refl
@@ -50,6 +45,24 @@ all-added line out at n i e h =
       | yes l ↦ sets_past (drop i (take n line)) out (at + i) (omega arith)
       | no l ↦ let z : i ≡ n = omega (arith, l) in rw z (ap (sets out (at + n)) (none_after line n))
     ]
+
+-- bytes copied over a part
+pub part-set : (l bs xs : List ℕ) (at n : ℕ) → n ≡ length bs → xs ≡ bs → at + length bs ≤ length l → put_mid at n l xs ≡ sets l at bs
+part-set l bs xs at n e f h = rw (e, f, drop-drop (length bs) at l) (sym (sets-eq bs l at h ∙ append_assoc (take at l) bs (drop (at + length bs) l)))
+
+-- as many bytes as there is room for
+pub sets_room : (line l : List ℕ) (at n m : ℕ) → m ≡ min n (length l - at) → at ≤ length l → n ≤ length line → sets l at (take m line) ≡ sets l at (take n line)
+sets_room line l at n m e h k =
+    let bs : List ℕ = take m line in
+    let rest : List ℕ = drop m (take n line) in
+    let size : length bs ≡ m = length-take-le m line (omega arith) in
+    let long : length (sets l at bs) ≡ length l = length-sets l at bs in
+    sym
+    (ap (sets l at) (sym (take-append-drop m (take n line)))
+    ∙ ap (λ (xs : List ℕ). sets l at (xs ++ rest)) (take-take m n line (omega arith))
+    ∙ sets_append bs rest l at
+    ∙ ap (λ (j : ℕ). sets (sets l at bs) (at + j) rest) size
+    ∙ all-added line (sets l at bs) at n m (omega arith) (omega arith))
 
 -- more bytes than there are
 pub take_least : (l : List ℕ) (n m : ℕ) → m ≡ length l → take (min n m) l ≡ take n l

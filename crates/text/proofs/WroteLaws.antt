@@ -1,10 +1,10 @@
 -- Writes that follow each other, and a write from the start on.
 use mathlib.Core.Path.{◌≡◌, sym, subst, ◌∙◌}
 use mathlib.Core.List.{List, ◌++◌}
-use Prim.Native.Nat.{ℕ, suc, ◌+◌, ◌≤◌, ◌<◌}
+use Prim.Native.Nat.{ℕ, ◌+◌, ◌≤◌}
 use native.Mathlib.Omega.{arith}
-use lib.ListN.{length, drop, get_or, set, length-append, drop_of_length-le}
-use lib.Seq.{sets, sets-eq, length-sets, drop-cons}
+use lib.ListN.{length, length-append}
+use lib.Seq.{sets-eq, length-sets}
 use Rattle.text.specs.Buffer.{Wrote, Put}
 use Rattle.text.proofs.SetsLaws.{sets_append}
 
@@ -25,17 +25,3 @@ pub whole : {bs l m : List ℕ} {r : ℕ} → Wrote bs 0 l r m → length l ≡ 
 whole {bs} {l} {m} {r} w e h =
     let z : 0 + length bs ≡ length bs = omega arith in
     (w.end ∙ z, w.holds ∙ rw z at (sets-eq bs l 0 (omega (arith, w.end))), h, rw w.holds (length-sets l 0 bs ∙ e))
-
--- ---- a word, byte after byte
-
-pub word_start : (w l : List ℕ) (at : ℕ) → sets l (at + 0) (drop 0 w) ≡ sets l at w
-word_start w l at = let e : at + 0 ≡ at = omega arith in rw e
-
-pub word-step : (w l : List ℕ) (at i : ℕ) → i < length w → sets (set l (at + i) (get_or w i 0)) (at + (i + 1)) (drop (i + 1) w) ≡ sets l (at + i) (drop i w)
-word-step w l at i h =
-    let e : at + (i + 1) ≡ suc (at + i) = omega arith in
-    let f : i + 1 ≡ suc i = omega arith in
-    rw (e, f, drop-cons w i 0 h)
-
-pub word_end : (w l : List ℕ) (at i : ℕ) → length w ≤ i → sets l (at + i) (drop i w) ≡ l
-word_end w l at i h = rw (drop_of_length-le w h)

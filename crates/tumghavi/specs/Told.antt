@@ -4,15 +4,17 @@ use Rattle.rules.specs.Basics.{pick}
 use Rattle.rules.specs.Average as A
 use Rattle.rules.specs.Outcome as O
 use Rattle.rules.specs.Outcome.{Cause, by_time, by_order, by_legs, by_cancel, Noted, Placed, Begun, Joined, Ended, Refused}
+use Rattle.rules.specs.Spelling as S
 use Rattle.rules.specs.Step as R
 use Rattle.rules.specs.Tape.{Fields, message_bytes, fields_of}
 use Rattle.state.specs.View.{state_of}
-use Rattle.state.specs.Lent.{LentMut}
+use Rattle.state.specs.Lent.{Lent, LentMut}
 use Rattle.records.specs.Records.{width}
 use Rattle.engine.specs.Steps.{records_in, all_prices_in}
 use Rattle.feed.specs.Replies.{answer_of}
 use Rattle.tumghavi.specs.declared.Outcome.{Outcome}
 use Rattle.tumghavi.specs.declared.Average.{Average}
+use Rattle.tumghavi.specs.declared.Reply.{Reply}
 
 -- ---- an outcome in numbers
 
@@ -42,6 +44,16 @@ numbers_of (Refused k) = numbers 6 0 k 0 0 0
 abbrev pub average_numbers : A.Average → Average
 average_numbers A.none = record { kind = 1; quotient = pos 0; remainder = 0 }
 average_numbers (A.exact q r) = record { kind = 2; quotient = q; remainder = r }
+
+-- ---- a form
+
+-- what a writer gives
+abbrev pub reply_of : Reply → S.Reply
+reply_of r = record { number = r.number; size = r.size }
+
+-- what it gives for a tape and a lent output, and the output then
+abbrev pub Formed : Lent → LentMut → Reply → Type 0
+Formed tape out r = (reply_of r ≡ S.reply_to tape.entry.now out.entry.now) × (out.exit.now ≡ S.buffer_after tape.entry.now out.entry.now)
 
 -- ---- what is told
 

@@ -9,7 +9,6 @@ ghost use Rattle.rules.specs.Tape.{messages_from};
 ghost use Rattle.rules.specs.Average.{average_for};
 ghost use Rattle.rules.specs.Print.{lines_from};
 ghost use Rattle.types.specs.View.{cause_of, outcome_of, opening_of};
-ghost use Rattle.state.specs.Layout.{Sized};
 ghost use Rattle.state.specs.View.{state_of};
 ghost use Rattle.state.specs.Lent.{Tells};
 ghost use Rattle.text.specs.Text.{lines_text};
@@ -18,16 +17,16 @@ ghost use Rattle.tape.specs.View.{fields_of};
 ghost use Rattle.opening.specs.Opens.{IsOpened};
 ghost use Rattle.text.specs.Outputs.{Puts};
 ghost use Rattle.session.specs.Lines.{tape_text};
-ghost use Rattle.form.specs.Writes.{Formed};
-ghost use Rattle.tumghavi.specs.Told.{cause_number, numbers, numbers_of, average_numbers, record_of, Told};
+ghost use Rattle.average.specs.Parts.{average_of as average_in};
+ghost use Rattle.form.specs.Writes.{reply_of as reply_in};
+ghost use Rattle.tumghavi.specs.Told.{cause_number, numbers, numbers_of, average_numbers, reply_of, record_of, Told, Formed};
 
 use book::Counts;
-use form::Reply;
 use records::Record;
 use session::{Cursor, Start};
-use state::State;
+use state::{Longs, State, Words};
 use tape::{Fields, Section};
-use types::{Cause, Fill, Opening};
+use types::{Cause, Fill, Opening, Refusal};
 
 // The bytes of a message record, and the numbers of 2,000 fill records.
 const RECORD: usize = Section::MESSAGE as usize;
@@ -71,7 +70,7 @@ impl Outcome {
     pub const BY_CANCEL: u32 = 4;
 }
 
-// The number of a cause.
+// The number of a cause; no `From`, since neither type is of this crate.
 fn cause_number(c: Cause) -> u32
     ensures { result ≡ cause_number (cause_of c) }
 {
@@ -98,16 +97,18 @@ fn numbers(kind: u32, cause: u32, number: u32, fills: u32, units: u64, deadline:
 }
 
 // Those of an outcome.
-fn numbers_of(o: types::Outcome) -> Outcome
-    ensures { result ≡ numbers_of (outcome_of o) }
-{
-    match o {
-        types::Outcome::Noted(n) => numbers(Outcome::NOTED, 0, 0, n, 0, 0),
-        types::Outcome::Placed(u, n) => numbers(Outcome::PLACED, 0, 0, n, u as u64, 0),
-        types::Outcome::Begun(t) => numbers(Outcome::BEGUN, 0, 0, 0, 0, t),
-        types::Outcome::Joined(u) => numbers(Outcome::JOINED, 0, 0, 0, u, 0),
-        types::Outcome::Ended(c, n) => numbers(Outcome::ENDED, cause_number(c), 0, n, 0, 0),
-        types::Outcome::Refused(k) => numbers(Outcome::REFUSED, 0, k, 0, 0, 0),
+impl From<types::Outcome> for Outcome {
+    ghost from_gives = { λ o told. told ≡ numbers_of (outcome_of o) };
+
+    fn from(o: types::Outcome) -> Outcome {
+        match o {
+            types::Outcome::Noted(n) => numbers(Outcome::NOTED, 0, 0, n, 0, 0),
+            types::Outcome::Placed(u, n) => numbers(Outcome::PLACED, 0, 0, n, u as u64, 0),
+            types::Outcome::Begun(t) => numbers(Outcome::BEGUN, 0, 0, 0, 0, t),
+            types::Outcome::Joined(u) => numbers(Outcome::JOINED, 0, 0, 0, u, 0),
+            types::Outcome::Ended(c, n) => numbers(Outcome::ENDED, cause_number(c), 0, n, 0, 0),
+            types::Outcome::Refused(row) => numbers(Outcome::REFUSED, 0, u32::from(row), 0, 0, 0),
+        }
     }
 }
 
@@ -128,23 +129,32 @@ impl Average {
     pub const EXACT: u32 = 2;
 }
 
+// Those of an average, if there is one.
+impl From<Option<average::Average>> for Average {
+    ghost from_gives = { λ found told. told ≡ average_numbers (average_in found) };
+
+    fn from(found: Option<average::Average>) -> Average {
+        match found {
+            None => Average {
+                kind: Average::NONE,
+                quotient: 0,
+                remainder: 0,
+            },
+            Some(a) => Average {
+                kind: Average::EXACT,
+                quotient: a.quotient,
+                remainder: a.remainder,
+            },
+        }
+    }
+}
+
 // That of an order over as many records at the start of a list as an outcome counts; of more than 2,000, which no message has, over the first 2,000.
 #[unsafe(no_mangle)]
 pub extern "C" fn tumghavi_average_in(list: &[u64], fills: usize, order: u32) -> Average
     ensures { result ≡ average_numbers (average_for order (first_records list.now fills)) }
 {
-    match average::average_of(list, fills, order) {
-        average::Average::None => Average {
-            kind: Average::NONE,
-            quotient: 0,
-            remainder: 0,
-        },
-        average::Average::Exact(quotient, remainder) => Average {
-            kind: Average::EXACT,
-            quotient,
-            remainder,
-        },
-    }
+    Average::from(average::average_of(list, fills, order))
 }
 
 // ---- a copy
@@ -154,18 +164,16 @@ pub extern "C" fn tumghavi_average_in(list: &[u64], fills: usize, order: u32) ->
 pub extern "C" fn tumghavi_open_in(longs: &mut [u64; 71], words: &mut [u32; 580], o: Opening) -> u32
     ensures { IsOpened longs words (opening_of o) result }
 {
-    opening::open(longs, words, o)
+    types::number_in(opening::open(longs, words, o))
 }
 
 // A message record's fields answered in a copy, with all places of the list.
-fn tell(longs: &mut [u64], words: &mut [u32], list: &mut [u64], f: Fields) -> Outcome
-    requires { Sized longs.old words.old }
+fn tell(longs: &mut Longs, words: &mut Words, list: &mut [u64], f: Fields) -> Outcome
     ensures { Told longs words list (fields_of f) result }
 {
     let places = list.len() / Record::NUMBERS;
     let a = feed::answer_of(longs, words, list, f, places);
-    let o = a.outcome;
-    numbers_of(o)
+    Outcome::from(a.outcome)
 }
 
 // A message: its outcome, and its fill records at the start of the list.
@@ -217,14 +225,13 @@ pub extern "C" fn tumghavi_counts_in(words: &[u32; 580]) -> Counts
 
 // The messages of a tape that is not turned back, and the last line.
 fn put_messages(
-    longs: &mut [u64],
-    words: &mut [u32],
+    longs: &mut Longs,
+    words: &mut Words,
     out: &mut [u8],
     at: usize,
     tape: &[u8],
     b: Start,
 ) -> usize
-    requires { Sized longs.old words.old }
     ensures { Puts (lines_text (lines_from 1 (state_of longs.old words.old) (messages_from b.count (drop b.at tape.now)))) out.old at result out.new }
 {
     let mut list = [0u64; NUMBERS];
@@ -245,12 +252,36 @@ pub extern "C" fn tumghavi_print(tape: &[u8], out: &mut [u8]) -> usize
 {
     let mut longs = [0u64; State::LONGS];
     let mut words = [0u32; State::WORDS];
-    let b = session::begin(&mut longs, &mut words, tape);
-    if b.number != 0 {
-        return session::put_refused(out, 0, 0, b.number);
+    match session::begin(&mut longs, &mut words, tape) {
+        Ok(b) => {
+            let at = session::put_title(out, 0);
+            put_messages(&mut longs, &mut words, out, at, tape, b)
+        }
+        Err(row) => session::put_refused(out, 0, 0, u32::from(row)),
     }
-    let at = session::put_title(out, 0);
-    put_messages(&mut longs, &mut words, out, at, tape, b)
+}
+
+// What a writer of a form gives: the number that turns the tape or the output back, 0 for none, and how many bytes the form has, 0 where it is not written.
+#[repr(C)]
+#[derive(Clone, Copy)]
+pub struct Reply {
+    pub number: u32,
+    pub size: usize,
+}
+
+// Of a form that is written or turned back.
+impl From<Result<usize, Refusal>> for Reply {
+    ghost from_gives = { λ written told. reply_of told ≡ reply_in written };
+
+    fn from(written: Result<usize, Refusal>) -> Reply {
+        match written {
+            Ok(size) => Reply { number: 0, size },
+            Err(row) => Reply {
+                number: u32::from(row),
+                size: 0,
+            },
+        }
+    }
 }
 
 // The written form of a tape at the start of the output, and how many bytes it has; what stands behind it is as it was. Or the number that turns the tape or the output back, and every byte is as it was.
@@ -258,5 +289,5 @@ pub extern "C" fn tumghavi_print(tape: &[u8], out: &mut [u8]) -> usize
 pub extern "C" fn tumghavi_form(tape: &[u8], out: &mut [u8]) -> Reply
     ensures { Formed tape out result }
 {
-    form::write(tape, out)
+    Reply::from(form::write(tape, out))
 }

@@ -1,5 +1,5 @@
 -- What the engine's types stand for in the rules.
-use Rattle.std.specs.Prelude.{List, [], ◌∷◌, ◌++◌, ℕ, zero, suc, ◌+◌, ◌-◌, eqb, length, get_or, take}
+use Rattle.std.specs.Prelude.{List, [], ◌∷◌, ◌++◌, ℕ, zero, suc, ◌+◌, ◌-◌, min, eqb, length, get_or, take, Option, Some, None}
 use Rattle.rules.specs.Basics.{pick}
 use Rattle.types.specs.declared.Leg.{Leg}
 use Rattle.types.specs.declared.Settings.{Settings}
@@ -18,13 +18,12 @@ use Rattle.types.specs.declared.Rank.{Rank}
 use Rattle.types.specs.declared.Rank.TheVariants.{L as rank_l, C as rank_c, N as rank_n, T as rank_t, R as rank_r}
 use Rattle.types.specs.declared.Contra.{Contra}
 use Rattle.types.specs.declared.Contra.TheVariants.{Legs as contra_legs, Entry as contra_entry}
-use Rattle.types.specs.declared.LegPrices.{LegPrices}
-use Rattle.types.specs.declared.LegPrices.TheVariants.{Unpriced as legs_unpriced, Priced as legs_priced}
 use Rattle.types.specs.declared.Fill.{Fill}
 use Rattle.types.specs.declared.Cause.{Cause}
 use Rattle.types.specs.declared.Cause.TheVariants.{Time as cause_time, Order as cause_order, Legs as cause_legs, Cancel as cause_cancel}
 use Rattle.types.specs.declared.Outcome.{Outcome}
 use Rattle.types.specs.declared.Outcome.TheVariants.{Noted as out_noted, Placed as out_placed, Begun as out_begun, Joined as out_joined, Ended as out_ended, Refused as out_refused}
+use Rattle.types.specs.Refusals.{number_of}
 use Rattle.rules.specs.Strategy as S
 use Rattle.rules.specs.Prices as P
 use Rattle.rules.specs.Book as B
@@ -151,22 +150,34 @@ abbrev pub contra_of : Contra → U.Contra
 contra_of contra_legs = U.legs
 contra_of (contra_entry i) = U.entry i
 
+-- the rank of a number
+abbrev pub rank_from : ℕ → U.Rank
+rank_from n = pick (eqb n 0) U.L (pick (eqb n 1) U.C (pick (eqb n 2) U.N (pick (eqb n 3) U.T U.R)))
+
+-- a number of 32 bits
+abbrev pub narrow : ℕ → ℕ
+narrow n = min n 4_294_967_295
+
+-- the contra of a number: 0 is the legs, another an id and 1
+abbrev pub contra_from : ℕ → U.Contra
+contra_from n = pick (eqb n 0) U.legs (U.entry (narrow (n - 1)))
+
 -- a fill record
 abbrev pub fill_of : Fill → U.Fill
 fill_of f = record { number = f.number; order = f.order; rank = rank_of f.rank; contra = contra_of f.contra; price = f.price; units = f.units }
 
 -- the leg prices of a record, from how many there are and the four numbers beside it
-abbrev pub leg_prices_of : LegPrices → List ℕ → G.LegPrices
-leg_prices_of legs_unpriced ps = G.unpriced
-leg_prices_of (legs_priced n) ps = G.priced (take n ps)
+abbrev pub leg_prices_of : Option ℕ → List ℕ → G.LegPrices
+leg_prices_of None ps = G.unpriced
+leg_prices_of (Some n) ps = G.priced (take n ps)
 
 abbrev pub prices_of : Fill → G.LegPrices
 prices_of f = leg_prices_of f.legs f.prices
 
 -- how a record holds leg prices: how many there are, and four numbers, 0 behind the prices
-abbrev pub held_legs : G.LegPrices → LegPrices
-held_legs G.unpriced = legs_unpriced
-held_legs (G.priced ps) = legs_priced (length ps)
+abbrev pub held_legs : G.LegPrices → Option ℕ
+held_legs G.unpriced = None
+held_legs (G.priced ps) = Some (length ps)
 
 abbrev pub held_prices : G.LegPrices → List ℕ
 held_prices G.unpriced = 0 ∷ 0 ∷ 0 ∷ 0 ∷ []
@@ -186,4 +197,4 @@ outcome_of (out_placed u n) = O.Placed u n
 outcome_of (out_begun t) = O.Begun t
 outcome_of (out_joined u) = O.Joined u
 outcome_of (out_ended c n) = O.Ended (cause_of c) n
-outcome_of (out_refused n) = O.Refused n
+outcome_of (out_refused r) = O.Refused (number_of r)

@@ -3,6 +3,11 @@
 // An opening, with all that it is made of, is laid out as in C: hosts hand it over.
 #![tactic(auto)]
 
+ghost use Rattle.std.specs.Prelude.{◌≡◌, true, false, OnOk, OnErr};
+ghost use Rattle.rules.specs.Basics.{pick};
+ghost use Rattle.types.specs.Refusals.{number_of, number_in};
+ghost use Rattle.types.specs.View.{rank_of, rank_from, contra_of, contra_from};
+
 // "A leg has a 21-byte symbol .., a side B or S as seen by a buyer of the strategy, a ratio, and a minimum price step".
 #[repr(C)]
 #[derive(Clone, Copy)]
@@ -14,7 +19,7 @@ pub struct Leg {
 }
 
 impl Leg {
-    // The letters of the sides.
+    // The letters of the sides. No enum: a host hands over any byte, and the rows refuse what is none.
     pub const B: u8 = 66;
 
     pub const S: u8 = 83;
@@ -150,7 +155,7 @@ pub struct Order {
 }
 
 impl Order {
-    // "account (1 customer, 2 not)".
+    // "account (1 customer, 2 not)"; a message may have any other byte.
     pub const CUSTOMER: u8 = 1;
 
     pub const OTHER: u8 = 2;
@@ -227,21 +232,41 @@ pub enum Rank {
     R,
 }
 
-// "A contra is either the legs or an open entry with its id".
+// The rank of a number.
+impl From<u64> for Rank {
+    ghost from_gives = { λ n r. rank_of r ≡ rank_from n };
+
+    fn from(n: u64) -> Rank {
+        match n {
+            0 => Rank::L,
+            1 => Rank::C,
+            2 => Rank::N,
+            3 => Rank::T,
+            _ => Rank::R,
+        }
+    }
+}
+
+// "A contra is either the legs or an open entry with its id": no `Option`, since the legs are not a lack of an entry.
 #[derive(Clone, Copy)]
 pub enum Contra {
     Legs,
     Entry(u32),
 }
 
-// M-106: whether a fill record has leg prices, and of how many legs; the prices stand beside it.
-#[derive(Clone, Copy)]
-pub enum LegPrices {
-    Unpriced,
-    Priced(u32),
+// The contra of a number: 0 is the legs, another an id and 1.
+impl From<u64> for Contra {
+    ghost from_gives = { λ n r. contra_of r ≡ contra_from n };
+
+    fn from(n: u64) -> Contra {
+        if n == 0 {
+            return Contra::Legs;
+        }
+        Contra::Entry(u32::try_from(n - 1).unwrap_or(u32::MAX))
+    }
 }
 
-// A fill record; the price is in signed cents. The leg prices are those of the first legs, in cents, 0 behind them.
+// A fill record; the price is in signed cents. M-106: of how many legs it has prices, if it has any; they are those of the first legs, in cents, 0 behind them.
 #[derive(Clone, Copy)]
 pub struct Fill {
     pub number: u64,
@@ -250,7 +275,7 @@ pub struct Fill {
     pub units: u32,
     pub rank: Rank,
     pub contra: Contra,
-    pub legs: LegPrices,
+    pub legs: Option<u32>,
     pub prices: [u64; 4],
 }
 
@@ -271,16 +296,72 @@ pub enum Cause {
     Cancel,
 }
 
-// The numbers of the table that more than one function gives.
-#[derive(Drop)]
-pub struct Refusal {}
+// "Where a message is turned back": a row for each number of the table.
+#[derive(Clone, Copy, PartialEq, Eq)]
+pub enum Refusal {
+    // Opening.
+    LegCount = 1,
+    Symbol = 2,
+    Date = 3,
+    Roots = 4,
+    Ratios = 5,
+    SideOrMpv = 6,
+    Setting = 7,
+    // Every message.
+    ShortList = 10,
+    Time = 11,
+    NextNumber = 12,
+    Deadline = 13,
+    // Quotes.
+    NoLeg = 20,
+    PriceOrSize = 21,
+    Crossed = 22,
+    // Orders.
+    OrderFields = 30,
+    OrderId = 31,
+    FullOrders = 32,
+    Filter = 33,
+    // Responses.
+    NoAuction = 40,
+    ResponseFields = 41,
+    ResponseId = 42,
+    FullResponses = 43,
+    // Cancel; M-105: and reduce.
+    NoOrder = 50,
+    OpenUnits = 71,
+    // Tape; M-100: and its form.
+    Damaged = 60,
+    Kind = 61,
+    ShortOutput = 70,
+}
 
 impl Refusal {
-    // "10 fill list under 2,000 places".
-    pub const SHORT_LIST: u32 = 10;
+    // "First that applies, reading down": a row whose condition holds turns back.
+    pub fn when(self, holds: bool) -> Result<(), Refusal>
+        ensures number { number_in result ≡ pick holds (number_of self) 0 }
+        ensures ok { OnOk result (holds ≡ false) }
+        ensures err { OnErr result (holds ≡ true) }
+    {
+        if holds { Err(self) } else { Ok(()) }
+    }
+}
 
-    // "61 any message's kind not below".
-    pub const NO_KIND: u32 = 61;
+// The number by which a refusal is told, 0 for none.
+pub fn number_in(r: Result<(), Refusal>) -> u32
+    ensures { result ≡ number_in r }
+{
+    match r {
+        Ok(()) => 0,
+        Err(row) => u32::from(row),
+    }
+}
+
+impl From<Refusal> for u32 {
+    ghost from_gives = { λ r n. n ≡ number_of r };
+
+    fn from(r: Refusal) -> u32 {
+        r as u32
+    }
 }
 
 // "The answer to a message is one of six outcomes".
@@ -291,5 +372,5 @@ pub enum Outcome {
     Begun(u64),
     Joined(u64),
     Ended(Cause, u32),
-    Refused(u32),
+    Refused(Refusal),
 }

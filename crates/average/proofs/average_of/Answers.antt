@@ -10,7 +10,7 @@ use Rattle.average.proofs.average_of.Goals as goal
 pub returns-then-units-eq0 : goal.returns-then-units-eq0
 returns-then-units-eq0 c =
     let a = c.args in
-    told_none a.list.now a.order a.n _ _ c.lesser_size-count.ensures c.units_of-units.ensures.0 c.if-units-eq0.true
+    told_none a.list.now a.order a.n _ _ c.min-count.ensures c.units_of-units.ensures.0 c.if-units-eq0.true
 
 pub returns : goal.returns
 returns c =
@@ -18,4 +18,4 @@ returns c =
     let u = c.units_of-units in
     let p : 0 < u.result = omega (arith, c.if-units-eq0.false) in
     let z : to_z w64 (of_z w64 c.cents.result) ≡ c.cents.result = search rules in
-    told-exact a.list.now a.order a.n _ _ c.lesser_size-count.ensures u.ensures.0 _ c.sum_of-total.ensures p _ (z ∙ c.cents.ensures)
+    told-exact a.list.now a.order a.n _ _ c.min-count.ensures u.ensures.0 _ c.sum_of-total.ensures p _ (z ∙ c.cents.ensures)

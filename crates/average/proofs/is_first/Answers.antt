@@ -1,6 +1,6 @@
 use mathlib.Core.Path.{◌≡◌, ap, sym, ◌∙◌}
 use mathlib.Core.Bool.{false, not}
-use Prim.Native.Nat.{ℕ, ◌-◌}
+use Prim.Native.Nat.{ℕ, ◌-◌, ◌<◌}
 use Rattle.types.specs.View.{from}
 use Rattle.records.specs.Records.{record_at}
 use Rattle.average.specs.Sums.{named}
@@ -22,8 +22,8 @@ returns-then-order_at-order c =
 pub loop-i-preserved : goal.loop-i-preserved
 loop-i-preserved c =
     let a = c.args in
-    let t = c.loop-i-test.true in
     let L = c.loop-i in
+    let t : 0 < L.i = omega (arith, c.loop-i-test.true) in
     (omega (arith, L.invariant.0), named_none a.list.now _ a.j L.i t L.invariant.0 (λ e. c.if-order_at-order.false (c.order_at.ensures ∙ e)) L.invariant.1)
 
 pub returns : goal.returns

@@ -22,7 +22,7 @@ loop-k-preserved-then-is_queued c =
       omega arith,
       v.1,
       λ longs.
-          rw c.put_front-a.ensures (rw (q, ← v.2 longs) at (front-hit (entry_at longs w) k c.open_count-k.result (omega arith) (sym c.is_queued.ensures ∙ c.if-is_queued.true))),
+          rw c.put_front.ensures (rw (q, ← v.2 longs) at (front-hit (entry_at longs w) k c.open_count-k.result (omega arith) (sym c.is_queued.ensures ∙ c.if-is_queued.true))),
     )
 
 pub loop-k-preserved : goal.loop-k-preserved

@@ -8,7 +8,7 @@ use Rattle.book.specs.Questions.{front_of}
 use Rattle.book.proofs.first_queued.Given as goal
 
 abbrev pub invariant-loop-k : goal.invariant-loop-k
-invariant-loop-k l = (l.k ≤ l.initial.k) × (l.initial.k ≡ open_count l.words) × ((longs : List ℕ) → l.a ≡ front_of (first_in (queue (from (entry_at longs l.words) l.k l.initial.k))))
+invariant-loop-k l = (l.k ≤ l.initial.k) × (l.initial.k ≡ open_count l.words) × ((longs : List ℕ) → l.first ≡ front_of (first_in (queue (from (entry_at longs l.words) l.k l.initial.k))))
 
 abbrev pub decreases-loop-k : goal.decreases-loop-k
 decreases-loop-k l = l.k

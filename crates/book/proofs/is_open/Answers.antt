@@ -1,20 +1,12 @@
-use mathlib.Core.Path.{refl}
+use mathlib.Core.Path.{refl, ◌∙◌}
 use native.Mathlib.Omega.{arith}
 use lib.Dec.{eqb}
-use Rattle.state.specs.View.{entry_at}
-use Rattle.book.proofs.ScanLaws.{seen_step, seen_end}
+use Rattle.state.specs.View.{entry_at, open_count}
+use Rattle.book.proofs.FindLaws.{any-column}
 use Rattle.book.proofs.is_open.Goals as goal
-
-pub loop-k-init : goal.loop-k-init
-loop-k-init c = (omega arith, c.open_count-m.ensures, λ longs. refl)
-
-pub loop-k-preserved : goal.loop-k-preserved
-loop-k-preserved c =
-    let a = c.args in
-    let v = c.loop-k.invariant in
-    (omega arith, v.1, λ longs. seen_step (λ e. eqb e.id a.id) (entry_at longs a.words.now) c.loop-k.k _ c.loop-k.seen (v.2 longs) (omega arith) refl)
 
 pub returns : goal.returns
 returns c longs =
-    let v = c.loop-k.invariant in
-    rw (← v.1) (seen_end _ (entry_at longs c.args.words.now) c.loop-k.k _ _ (v.2 longs) (omega arith))
+    let a = c.args in
+    let w = a.words.now in
+    c.contains.ensures.value ∙ any-column (λ x. eqb x a.id) (λ e. eqb e.id a.id) (entry_at longs w) w 0 (open_count w) _ (omega arith) (omega (arith, c.open_count-m.ensures)) (λ i h. refl)

@@ -5,6 +5,7 @@ use Rattle.rules.specs.Book.{Entry, count, is_response}
 use Rattle.types.specs.View.{from}
 use Rattle.types.proofs.TableLaws.{from-length}
 use Rattle.state.specs.View.{entry_at}
+use Rattle.book.proofs.StoreLaws.{counted-flag}
 use Rattle.book.proofs.ScanLaws.{count-step, count-end, orders_left}
 use Rattle.book.proofs.open_counts.Goals as goal
 
@@ -16,11 +17,11 @@ loop-k-preserved c =
     let w = c.args.words.now in
     let k = c.loop-k.k in
     let m = c.open_count-m.result in
-    let one = c.one_if-responses.ensures in (
+    let one = counted-flag c.is_response.result in (
       omega arith,
       c.loop-k.invariant.1,
       omega arith,
-      λ longs. omega (arith, rw (← c.is_response.ensures) at (count-step (entry_at longs w) k m (λ e. is_response e.stage) (omega arith)), c.loop-k.invariant.3 longs),
+      λ longs. omega (arith, c.from-responses.ensures, one.0, rw (← c.is_response.ensures) at (count-step (entry_at longs w) k m (λ e. is_response e.stage) (omega arith)), c.loop-k.invariant.3 longs),
     )
 
 pub returns : goal.returns

@@ -1,25 +1,14 @@
-use mathlib.Core.Path.{refl, sym, ap, ◌∙◌}
-use Rattle.rules.specs.Outcome.{Refused}
 use Rattle.types.specs.View.{message_of}
-use Rattle.state.proofs.StateLaws.{sized_so}
-use Rattle.engine.proofs.AnswerLaws.{let-pass, step-accepted, step_refused}
-use borrow.Author.Rules.{rules}
+use Rattle.engine.proofs.AnswerLaws.{unfit}
 use Rattle.engine.proofs.step.Goals as goal
 
-pub accepted-requires : goal.accepted-requires
-accepted-requires c =
+pub returns-in_default : goal.returns-in_default
+returns-in_default c =
     let a = c.args in
-    let l = a.longs.now in
-    let w = a.words.now in
-    let p = let-pass l w a.list.now (message_of a.m) a.room (sym c.refusal-number.ensures ∙ c.if-number-eq0.true) in
-    (sized_so l w p.sized, p.room, p.next, p.time)
+    unfit a.longs.now a.words.now a.list.now (message_of a.m) a.room _ (λ s. c.in_default.ensures.cases s.0) c.refused.ensures.0 c.refused.ensures.1
 
-pub returns-then-number-eq0 : goal.returns-then-number-eq0
-returns-then-number-eq0 c =
+pub returns-in_default-as_mut_array : goal.returns-in_default-as_mut_array
+returns-in_default-as_mut_array c =
     let a = c.args in
-    step-accepted a.longs.now a.words.now a.list.now (message_of a.m) a.room c.accepted.new.longs _ _ _ (sym c.refusal-number.ensures ∙ c.if-number-eq0.true) (search rules) (search rules) c.accepted.ensures
-
-pub returns : goal.returns
-returns c =
-    let a = c.args in
-    step_refused a.longs.now a.words.now a.list.now (message_of a.m) a.room _ (λ e. c.if-number-eq0.false (c.refusal-number.ensures ∙ e)) refl (ap Refused c.refusal-number.ensures)
+    let r = c.refused-in_default-as_mut_array.ensures in
+    rw c.in-Some.ensures.cases.same (unfit a.longs.now a.words.now a.list.now (message_of a.m) a.room _ (λ s. c.in_default-as_mut_array.ensures.cases s.1) r.0 r.1)

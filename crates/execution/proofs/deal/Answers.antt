@@ -7,12 +7,12 @@ use Rattle.execution.proofs.deal.Goals as goal
 
 pub returns-then-is_shared : goal.returns-then-is_shared
 returns-then-is_shared c =
-    let m : min c.args.n 66 ≡ c.args.n = omega (arith, c.requires.0) in
+    let m : min c.args.n 66 ≡ c.args.n = omega (arith, c.requires) in
     let y = deal_yes c.args.k c.args.amount (take c.args.n c.args.sizes.now) (sym c.is_shared.ensures ∙ c.if-is_shared.true) in
-    (c.share.ensures.0, rw m at c.share.ensures.1 ∙ y)
+    rw m at c.share.ensures.0 ∙ y
 
 pub returns-else-is_shared : goal.returns-else-is_shared
 returns-else-is_shared c =
-    let m : min c.args.n 66 ≡ c.args.n = omega (arith, c.requires.0) in
+    let m : min c.args.n 66 ≡ c.args.n = omega (arith, c.requires) in
     let y = deal_no c.args.k c.args.amount (take c.args.n c.args.sizes.now) (sym c.is_shared.ensures ∙ c.if-is_shared.false) in
-    (c.in_turn.ensures.0, rw m at c.in_turn.ensures.1 ∙ y)
+    rw m at c.in_turn.ensures.0 ∙ y

@@ -11,11 +11,11 @@ loop-i-init c = (search rules, search rules, refl)
 pub loop-i-preserved : goal.loop-i-preserved
 loop-i-preserved c =
     let a = c.args in
-    let e = gather-step a.n c.loop-i.i a.tiers.now a.units.now (omega arith) (omega arith) (omega arith) a.k c.loop-i.sizes (omega arith) in
+    let e = gather-step a.slots.now.count c.loop-i.i a.slots.now.tiers a.slots.now.units (omega arith) (omega arith) (omega arith) a.k c.loop-i.sizes (omega arith) in
     (omega arith, search rules, rw c.at_tier.ensures (e ∙ c.loop-i.invariant.2))
 
 pub returns : goal.returns
 returns c =
     let a = c.args in
     let L = c.loop-i in
-    (L.invariant.1, sym (done a.n L.i L.sizes _ (omega arith) (omega arith) (sizes-end a.n L.i (omega arith) a.k a.tiers.now _)) ∙ L.invariant.2)
+    sym (done a.slots.now.count L.i L.sizes _ (omega arith) (omega arith) (sizes-end a.slots.now.count L.i (omega arith) a.k a.slots.now.tiers _)) ∙ L.invariant.2

@@ -6,4 +6,4 @@ pub returns : goal.returns
 returns c =
     let a = c.args in
     let e = c.give.ensures in
-    (e.0, part_is a.k a.amount (take a.n a.tiers.now) (take a.n a.units.now) (take a.n a.gave.now) c.gather.ensures.1 c.deal.ensures.1 e.1, e.2)
+    (part_is a.k a.amount (take a.slots.now.count a.slots.now.tiers) (take a.slots.now.count a.slots.now.units) (take a.slots.now.count a.gave.now) c.gather.ensures c.deal.ensures e.0, e.1)

@@ -15,19 +15,19 @@ pub loop-i-preserved : goal.loop-i-preserved
 loop-i-preserved c =
     let a = c.args in
     let i = c.loop-i.i in
-    let ps = a.tiers.now in
-    let us = a.units.now in
+    let ps = a.slots.now.tiers in
+    let us = a.slots.now.units in
     let e = c.open_tier.ensures in
-    let z : c.lesser-m.result ≡ nearer a.b c.loop-i.m (get_or ps i 0) (get_or us i 0) =
-    c.lesser-m.ensures ∙ ap (λ (x : ℕ). min x c.loop-i.m) e.0 ∙ near-least a.b c.loop-i.m (get_or ps i 0) (get_or us i 0) c.loop-i.invariant.1 in (
+    let z : c.min-m.result ≡ nearer a.b c.loop-i.m (get_or ps i 0) (get_or us i 0) =
+    c.min-m.ensures ∙ ap (λ (x : ℕ). min x c.loop-i.m) e.0 ∙ near-least a.b c.loop-i.m (get_or ps i 0) (get_or us i 0) c.loop-i.invariant.1 in (
       omega arith,
-      omega (arith, c.lesser-m.ensures, c.loop-i.invariant.1),
-      rw z (least_step a.n i ps us (omega arith) (omega arith) (omega arith) a.b c.loop-i.m ∙ c.loop-i.invariant.2),
-      under-step a.n i 4294967296 ps (omega arith) (omega arith) e.1 c.loop-i.invariant.3,
+      omega (arith, c.min-m.ensures, c.loop-i.invariant.1),
+      rw z (least_step a.slots.now.count i ps us (omega arith) (omega arith) (omega arith) a.b c.loop-i.m ∙ c.loop-i.invariant.2),
+      under-step a.slots.now.count i 4294967296 ps (omega arith) (omega arith) e.1 c.loop-i.invariant.3,
     )
 
 pub returns : goal.returns
 returns c =
     let L = c.loop-i in
     let a = c.args in
-    (sym (least-end a.n L.i (omega arith) a.b L.m a.tiers.now _) ∙ L.invariant.2, under-end a.n L.i (omega arith) 4294967296 a.tiers.now L.invariant.3)
+    (sym (least-end a.slots.now.count L.i (omega arith) a.b L.m a.slots.now.tiers _) ∙ L.invariant.2, under-end a.slots.now.count L.i (omega arith) 4294967296 a.slots.now.tiers L.invariant.3)

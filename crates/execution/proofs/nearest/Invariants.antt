@@ -5,9 +5,9 @@ use Rattle.execution.specs.Walk.{no_tier, least_from, Under}
 use Rattle.execution.proofs.nearest.Given as goal
 
 abbrev pub invariant-loop-i : goal.invariant-loop-i
-invariant-loop-i l = (l.i ≤ l.n) × (l.m ≤ no_tier)
-    × (least_from l.b l.m (drop l.i (take l.n l.tiers)) (drop l.i (take l.n l.units)) ≡ least_from l.b no_tier (take l.n l.tiers) (take l.n l.units))
-    × (Under 4294967296 (drop l.i (take l.n l.tiers)) → Under 4294967296 (take l.n l.tiers))
+invariant-loop-i l = (l.i ≤ l.slots.count) × (l.m ≤ no_tier)
+    × (least_from l.b l.m (drop l.i (take l.slots.count l.slots.tiers)) (drop l.i (take l.slots.count l.slots.units)) ≡ least_from l.b no_tier (take l.slots.count l.slots.tiers) (take l.slots.count l.slots.units))
+    × (Under 4294967296 (drop l.i (take l.slots.count l.slots.tiers)) → Under 4294967296 (take l.slots.count l.slots.tiers))
 
 abbrev pub decreases-loop-i : goal.decreases-loop-i
-decreases-loop-i l = l.n - l.i
+decreases-loop-i l = l.slots.count - l.i

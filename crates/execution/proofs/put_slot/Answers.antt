@@ -18,7 +18,7 @@ pub returns-then-slot-lt-BOOK : goal.returns-then-slot-lt-BOOK
 returns-then-slot-lt-BOOK c =
     let a = c.args in
     let b : ltb 0 a.units ≡ true = lt-ltb 0 a.units (omega (arith, c.if-units-eq0.false)) in
-    let e = record_is a.number a.order a.rank 0 a.legs a.units a.legs legs (omega arith) (omega arith) refl (omega (arith, c.requires.2)) in
+    let e = record_is a.number a.order a.rank 0 a.legs a.units a.legs legs (omega arith) (omega arith) refl (omega (arith, c.requires.1)) in
     rw (b, lt-ltb a.slot 2 c.if-slot-lt-BOOK.true) (rw e at c.put_record.ensures)
 
 pub returns : goal.returns
@@ -27,6 +27,6 @@ returns c =
     let i = a.slot - 2 in
     let w = a.words.now in
     let b : ltb 0 a.units ≡ true = lt-ltb 0 a.units (omega (arith, c.if-units-eq0.false)) in
-    let e = record_is a.number a.order a.rank c.contra_of-contra.result c.wide-price.result a.units (get_or w (L.prices + i) 0) (entry (get_or w (L.ids + i) 0)) (omega arith) (omega arith) c.contra_of-contra.ensures
-    (omega (arith, c.wide-price.ensures.0, c.wide-price.ensures.1)) in
+    let e = record_is a.number a.order a.rank c.contra_of-contra.result c.from-price.result a.units (get_or w (L.prices + i) 0) (entry (get_or w (L.ids + i) 0)) (omega arith) (omega arith) c.contra_of-contra.ensures
+    (omega (arith, c.from-price.ensures, c.from-price.ensures)) in
     rw (b, le-ltb a.slot 2 c.if-slot-lt-BOOK.false) (rw e at c.put_record-2.ensures)

@@ -1,6 +1,7 @@
-use mathlib.Core.Path.{◌≡◌, ◌∙◌}
+use mathlib.Core.Path.{◌≡◌}
 use Prim.Native.Nat.{◌+◌, min}
 use native.Mathlib.Omega.{arith}
+use borrow.Author.Rules.{rules}
 use lib.ListN.{length, take}
 use Rattle.rules.specs.Execution.{serve}
 use Rattle.state.specs.View.{state_of}
@@ -11,10 +12,7 @@ use Rattle.execution.proofs.serve.Goals as goal
 
 pub loop-i-init : goal.loop-i-init
 loop-i-init c =
-    (omega arith, c.requires.0, goes_none c.args.longs.now c.args.words.now _ _ _ (serve_none (mode_of c.args.mode) _))
-
-pub execute_id-w-requires : goal.execute_id-w-requires
-execute_id-w-requires c = c.loop-i.invariant.1
+    (omega arith, (omega arith, omega arith), goes_none c.args.longs.now c.args.words.now _ _ _ (serve_none (mode_of c.args.mode) _))
 
 pub loop-i-preserved : goal.loop-i-preserved
 loop-i-preserved c =
@@ -22,13 +20,13 @@ loop-i-preserved c =
     let m = mode_of a.mode in
     let i = c.loop-i.i in (
       omega arith,
-      (c.longs-1.given ∙ c.loop-i.invariant.1.0, c.words-1.given ∙ c.loop-i.invariant.1.1),
-      goes_as (serve m (take (i + 1) a.ids.now)) (serve_more m a.ids.now i (state_of a.longs.now a.words.now) (omega arith)) (goes_then c.loop-i.invariant.2 c.execute_id-w.ensures),
+      search (rules, c.loop-i.invariant.1),
+      goes_as (serve m (take (i + 1) a.ids.now)) (serve_more m a.ids.now i (state_of a.longs.now a.words.now) (omega arith)) (goes_then c.loop-i.invariant.2 (rw c.from-m.ensures at c.execute_id-w.ensures)),
     )
 
 pub returns : goal.returns
 returns c =
     let a = c.args in
-    let e = c.lesser_size-end.ensures in
-    let z : c.loop-i.i ≡ min a.n (length a.ids.now) = omega (arith, e, c.requires.1) in
+    let e = c.min-end.ensures in
+    let z : c.loop-i.i ≡ min a.n (length a.ids.now) = omega (arith, e) in
     rw (take_least c.loop-i.i a.n a.ids.now z) at c.loop-i.invariant.2

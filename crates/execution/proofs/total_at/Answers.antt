@@ -12,13 +12,13 @@ loop-i-init c = (search rules, search rules, omega arith)
 pub loop-i-preserved : goal.loop-i-preserved
 loop-i-preserved c =
     let a = c.args in
-    let e = total-step a.n c.loop-i.i a.tiers.now a.units.now (omega arith) (omega arith) (omega arith) a.k in
-    let w = c.wide-sum.ensures.0 ∙ c.at_tier.ensures in
-    (omega arith, omega (arith, c.wide-sum.ensures.1, c.loop-i.invariant.1), omega (arith, w, e, c.loop-i.invariant.2))
+    let e = total-step a.slots.now.count c.loop-i.i a.slots.now.tiers a.slots.now.units (omega arith) (omega arith) (omega arith) a.k in
+    let w = c.from-sum.ensures ∙ c.at_tier.ensures in
+    (omega arith, omega (arith, c.from-sum.ensures, c.loop-i.invariant.1), omega (arith, w, e, c.loop-i.invariant.2))
 
 pub returns : goal.returns
 returns c =
     let L = c.loop-i in
     let a = c.args in
-    let z = ap sum (sizes-end a.n L.i (omega arith) a.k a.tiers.now (drop L.i (take a.n a.units.now))) in
+    let z = ap sum (sizes-end a.slots.now.count L.i (omega arith) a.k a.slots.now.tiers (drop L.i (take a.slots.now.count a.slots.now.units))) in
     omega (arith, z, L.invariant.2)

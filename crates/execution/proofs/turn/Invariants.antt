@@ -9,7 +9,7 @@ use Rattle.execution.proofs.turn.Given as goal
 
 abbrev pub invariant-loop-rest : goal.invariant-loop-rest
 invariant-loop-rest l = (length l.gave ≡ 66) × (length l.list ≡ length l.initial.list) × (l.b ≤ no_tier) × (l.rest ≤ l.o.units)
-    × ((longs : List ℕ) → Walked l.o.number l.o.id l.o.units l.b l.rest (offers_in longs l.words l.o.legs l.tiers l.units l.n) (take l.n l.gave) l.initial.list l.at l.list l.w)
+    × ((longs : List ℕ) → Walked l.o.number l.o.id l.o.units l.b l.rest (offers_in longs l.words l.o.legs l.slots.tiers l.slots.units l.slots.count) (take l.slots.count l.gave) l.initial.list l.at l.list l.w)
 
 abbrev pub decreases-loop-rest : goal.decreases-loop-rest
 decreases-loop-rest l = no_tier + 1 - l.b

@@ -11,7 +11,7 @@ loop-i-init c = stored_first c.step-a.new.list c.args.fills.now c.step-a.result.
 
 pub loop-i-preserved : goal.loop-i-preserved
 loop-i-preserved c =
-    sets_more c.loop-i.fills c.loop-i.i c.fill_at-f.result (stored_in c.step-a.new.list (c.loop-i.i + 1) c.step-a.result.count) (stored_in c.step-a.new.list c.loop-i.i c.step-a.result.count) (stored_more c.step-a.new.list c.loop-i.i c.step-a.result.count c.fill_at-f.result c.loop-i-test.true (numbers_fit c.args.longs.now c.args.words.now c.args.list.now c.args.fills.now (message_of c.args.m) c.step-a.result c.step-a.new.longs c.step-a.new.words c.step-a.new.list c.step-a.ensures) c.fill_at-f.ensures) ∙ c.loop-i.invariant
+    sets_more c.loop-i.fills c.loop-i.i c.fill_at.result (stored_in c.step-a.new.list (c.loop-i.i + 1) c.step-a.result.count) (stored_in c.step-a.new.list c.loop-i.i c.step-a.result.count) (stored_more c.step-a.new.list c.loop-i.i c.step-a.result.count c.fill_at.result c.loop-i-test.true (numbers_fit c.args.longs.now c.args.words.now c.args.list.now c.args.fills.now (message_of c.args.m) c.step-a.result c.step-a.new.longs c.step-a.new.words c.step-a.new.list c.step-a.ensures) c.fill_at.ensures) ∙ c.loop-i.invariant
 
 pub returns : goal.returns
 returns c =

@@ -1,9 +1,11 @@
 use mathlib.Core.List.{[], ◌∷◌}
-use native.Mathlib.Omega.{arith}
-use Rattle.text.proofs.WroteLaws.{join, same}
+use Rattle.types.specs.View.{upto}
+use Rattle.text.proofs.WroteLaws.{same}
 use Rattle.form.proofs.put_four.Goals as goal
 
 pub returns : goal.returns
+unfolding upto
 returns c =
-    let e = c.full-b.ensures in
-    (same (λ i. e i ∷ e i ∷ e i ∷ e i ∷ []) (join c.put_byte-end.ensures.0 (join c.put_byte-end-2.ensures.0 (join c.put_byte-end-3.ensures.0 c.put_byte.ensures.0))), omega (arith, c.put_byte-end.ensures.1, c.put_byte-end-2.ensures.1, c.put_byte-end-3.ensures.1, c.put_byte.ensures.1), omega (arith, c.put_byte-end.ensures.2, c.put_byte-end-2.ensures.2, c.put_byte-end-3.ensures.2, c.put_byte.ensures.2))
+    let e = c.full.ensures in
+    let P = c.put_part.ensures in
+    (same (λ i. e i ∷ e i ∷ e i ∷ e i ∷ []) P.0, P.1, P.2)

@@ -1,7 +1,8 @@
-use native.Mathlib.Omega.{arith}
-use Rattle.text.proofs.WroteLaws.{join}
+use mathlib.Core.Path.{refl}
+use Rattle.types.specs.View.{upto}
+use Rattle.text.proofs.WroteLaws.{same}
 use Rattle.form.proofs.put_half.Goals as goal
 
 pub returns : goal.returns
-returns c =
-    ((join c.put_byte-end.ensures.0 c.put_byte.ensures.0), omega (arith, c.put_byte-end.ensures.1, c.put_byte.ensures.1), omega (arith, c.put_byte-end.ensures.2, c.put_byte.ensures.2))
+unfolding upto
+returns c = let P = c.put_part.ensures in (same (rw c.to_le_bytes.ensures refl) P.0, P.1, P.2)

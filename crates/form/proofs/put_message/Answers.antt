@@ -20,7 +20,7 @@ loop-i-preserved c =
     let a = c.args in
     let v = L.invariant in
     let z : 0 + L.i ≡ L.i = omega arith in
-    let s = values-step (λ k. min (get_or a.tape.now (a.from + k) 0) (get_or a.rows.now (a.row + k) 0)) 0 36 L.bytes 0 L.i c.lesser_byte.result (omega arith) (rw z c.lesser_byte.ensures) in
+    let s = values-step (λ k. min (get_or a.tape.now (a.from + k) 0) (get_or a.rows.now (a.row + k) 0)) 0 36 L.bytes 0 L.i c.min.result (omega arith) (rw z c.min.ensures) in
     (omega arith, v.1, v.2, v.3, search rules, (rw z at s) ∙ rw z at v.5)
 
 pub returns : goal.returns

@@ -6,9 +6,9 @@ use Rattle.intake.proofs.clock_in.Goals as goal
 pub returns-then-is_reached : goal.returns-then-is_reached
 returns-then-is_reached c =
     let a = c.args in
-    clock_is (state_of a.longs.now a.words.now) c.is_reached.result c.lesser_long-time.result 3 c.lesser_long-time.ensures c.is_reached.ensures (rw c.if-is_reached.true refl)
+    clock_is (state_of a.longs.now a.words.now) c.is_reached.result c.min-time.result _ c.min-time.ensures c.is_reached.ensures (rw c.if-is_reached.true refl)
 
 pub returns : goal.returns
 returns c =
     let a = c.args in
-    clock_is (state_of a.longs.now a.words.now) c.is_reached.result c.lesser_long-time.result 0 c.lesser_long-time.ensures c.is_reached.ensures (rw c.if-is_reached.false refl)
+    clock_is (state_of a.longs.now a.words.now) c.is_reached.result c.min-time.result _ c.min-time.ensures c.is_reached.ensures (rw c.if-is_reached.false refl)

@@ -11,7 +11,7 @@ returns c = λ longs o eb ep eu.
       c.near_live-live.ensures longs,
       c.in_front-front.ensures longs o eb ep,
       c.is_beyond-far.ensures,
-      c.wide.ensures.0,
+      c.from.ensures,
       ap (λ (x : Derived). x.units) d,
       ap (λ (x : Derived). x.price) d,
       c.meets_class-class.ensures longs,

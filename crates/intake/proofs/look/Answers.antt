@@ -1,5 +1,6 @@
 use mathlib.Core.Path.{ap, ◌∙◌}
 use mathlib.Core.List.{[], ◌∷◌}
+use native.Mathlib.Omega.{arith}
 use Prim.Native.Nat.{min}
 use lib.ListN.{get_or}
 use Rattle.rules.specs.Prices.{Derived, derived}
@@ -13,7 +14,7 @@ pub returns-then-is_pending-kept : goal.returns-then-is_pending-kept
 returns-then-is_pending-kept c =
     let l = c.args.longs.now in
     let w = c.args.words.now in
-    least_kept l w c.least_shown.result c.requires
+    least_kept l w c.least_shown.result (omega arith, omega arith)
     (c.least_shown.ensures
     ∙ ap (λ (d : Derived). min (get_or w L.start_units 0) (units_at (get_or l L.start_prices 0) (d ∷ []))) (c.derived-d.ensures.0 l ∙ ap (λ x. derived x (legs_of w) (market_of w)) c.is_set.ensures))
 

@@ -15,7 +15,7 @@ returns c =
       participant = a.t.participant;
       buy = c.word_of.ensures i;
       customer = c.word_of-2.ensures i;
-      price = (c.biased.ensures ∙ ap biased (to_z-of_z {w = w32} {z = a.t.price} (search (rules, c.struct_told-1)))) i;
+      price = (c.biased.ensures ∙ ap biased (to_z-of_z {w = w32} {z = a.t.price} (search rules))) i;
       units = a.t.units;
       arrival = a.number;
       stage = answer;

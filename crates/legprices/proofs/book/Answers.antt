@@ -6,7 +6,7 @@ use Rattle.legprices.proofs.book.Goals as goal
 pub loop-j-init : goal.loop-j-init
 loop-j-init c =
     let a = c.args in
-    (omega arith, omega arith, held_none a.words.now a.buy _ refl, booking-start a.words.now a.list.now a.at a.end a.buy begun refl)
+    (omega arith, omega arith, held_none a.words.now a.buy _ refl refl, booking-start a.words.now a.list.now a.at a.end a.buy begun refl)
 
 pub loop-j-preserved : goal.loop-j-preserved
 loop-j-preserved c =

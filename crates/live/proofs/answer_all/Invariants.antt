@@ -1,17 +1,12 @@
 use mathlib.Core.Path.{◌≡◌}
 use Prim.Native.Nat.{◌-◌}
-use lib.ListN.{length}
 use Rattle.state.specs.View.{state_of}
 use Rattle.live.proofs.LiveLaws.{Goes}
 use Rattle.live.proofs.answer_all.Given as goal
 
 abbrev pub invariant-loop-p : goal.invariant-loop-p
 invariant-loop-p l =
-    (length l.longs ≡ length l.initial.longs)
-    × (length l.words ≡ length l.initial.words)
-    × (length l.list ≡ length l.initial.list)
-    × (length l.page ≡ length l.initial.page)
-    × (l.p.at ≡ 0)
+    (l.p.at ≡ 0)
     × Goes l.input (state_of l.initial.longs l.initial.words) (state_of l.longs l.words) l.p.position l.bytes
 
 abbrev pub decreases-loop-p : goal.decreases-loop-p

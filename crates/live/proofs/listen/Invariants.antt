@@ -1,6 +1,4 @@
-use mathlib.Core.Path.{◌≡◌}
 use Prim.Native.Nat.{◌-◌, ◌*◌, ◌≤◌, ◌<◌}
-use lib.ListN.{length}
 use Rattle.rules.specs.Tape.{message_bytes}
 use Rattle.state.specs.View.{state_of}
 use Rattle.live.specs.Lives.{Lived}
@@ -8,12 +6,7 @@ use Rattle.live.proofs.listen.Given as goal
 
 abbrev pub invariant-loop-reads : goal.invariant-loop-reads
 invariant-loop-reads l =
-    (length l.longs ≡ length l.initial.longs)
-    × (length l.words ≡ length l.initial.words)
-    × (length l.list ≡ length l.initial.list)
-    × (length l.page ≡ length l.initial.page)
-    × (length l.input ≡ length l.initial.input)
-    × (l.left < message_bytes)
+    (l.left < message_bytes)
     × (l.records ≤ 1820 * l.reads)
     × (l.reads ≤ 10_000_000_000_000_000)
     × Lived (state_of l.initial.longs l.initial.words) (state_of l.longs l.words) (record { records = l.records; bytes = l.bytes })

@@ -1,12 +1,12 @@
 use Prim.Native.Nat.{◌-◌}
 use native.Mathlib.Omega.{arith}
 use lib.ListN.{length}
+use borrow.Author.Rules.{rules}
 use borrow.Rule.Slice.PartMut.{mid_len, take_put}
 use Rattle.live.proofs.read_behind.Goals as goal
 
 pub returns : goal.returns
 returns c =
     let input = c.args.input.now in
-    let g = c.input-1.given in
     let m = mid_len c.args.left (length input) input (omega arith) in
-    record { first = take_put c.args.left (length input - c.args.left) input c.read_some.new.room (omega (arith, c.requires)); inside = omega (arith, g.0, g.1, m, c.requires, c.read_some.ensures); sized = g.1 }
+    record { first = take_put c.args.left (length input - c.args.left) input c.read_some.new.room (omega (arith, c.requires)); inside = omega (arith, m, c.requires, c.read_some.ensures); sized = search rules }

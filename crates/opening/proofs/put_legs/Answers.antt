@@ -7,7 +7,7 @@ use borrow.Author.Rules.{rules}
 use Rattle.opening.proofs.put_legs.Goals as goal
 
 pub loop-k-init : goal.loop-k-init
-loop-k-init c = (omega arith, c.requires, λ i h. absurd (omega arith))
+loop-k-init c = (omega arith, (omega arith), λ i h. absurd (omega arith))
 
 pub loop-k-preserved : goal.loop-k-preserved
 loop-k-preserved c =

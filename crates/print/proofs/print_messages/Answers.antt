@@ -15,18 +15,18 @@ loop-p-init c =
     let t = c.put_title-at.ensures in
     let end = t.0.end in
     let few = t.1 in
-    (refl, refl, refl, refl, puts_same _ _ _ _ _ t.0 ∙ c.requires.2, omega (arith, end, few), omega arith)
+    (omega (arith, end, few), omega arith)
+
+pub shared_ref_as_front-hand_over : goal.shared_ref_as_front-hand_over
+shared_ref_as_front-hand_over c = omega (arith, puts_room _ _ _ _ _ c.run-p.ensures.told.puts.puts)
 
 pub slice_bounds-hand_over-end : goal.slice_bounds-hand_over-end
-slice_bounds-hand_over-end c = puts_room _ _ _ _ _ c.run-p.ensures.told.puts.puts
-
-pub slice_bounds-hand_over-end-in-loop-p : goal.slice_bounds-hand_over-end-in-loop-p
-slice_bounds-hand_over-end-in-loop-p c = sym (length-take-le _ _ (puts_room _ _ _ _ _ c.run-p.ensures.told.puts.puts))
+slice_bounds-hand_over-end c = sym (length-take-le _ _ (puts_room _ _ _ _ _ c.run-p.ensures.told.puts.puts))
 
 pub loop-p-smaller : goal.loop-p-smaller
 loop-p-smaller c =
     let h = c.loop-p-test.true in
-    let low = c.loop-p.invariant.5 in
+    let low = c.loop-p.invariant.0 in
     let o = some-told _ _ _ _ _ _ _ _ _ c.run-p.ensures h (omega (arith, low)) in
     omega (arith, o, h)
 
@@ -34,16 +34,15 @@ pub loop-p-preserved : goal.loop-p-preserved
 loop-p-preserved c =
     let v = c.loop-p.invariant in
     let p = c.run-p.ensures.told.puts.puts in
-    let w = (none-lost _ _ _ _ _ _ _ _ _ c.run-p.ensures (omega (arith, v.4)) (omega (arith, v.5))).1 in
-    let same = puts_same _ _ _ _ _ p in
+    let w = (none-lost _ _ _ _ _ _ _ _ _ c.run-p.ensures (omega arith) (omega (arith, v.0))).1 in
     let h = handed _ _ _ _ _ _ _ p c.hand_over-h.ensures in
-    (search rules, search rules, search rules, same ∙ v.3, same ∙ v.4, omega arith, omega (arith, h, w, v.6))
+    (omega arith, omega (arith, h, w, v.1))
+
+pub shared_ref_as_front-hand_over-2 : goal.shared_ref_as_front-hand_over-2
+shared_ref_as_front-hand_over-2 c = omega (arith, puts_room _ _ _ _ _ (c.put_last-n.ensures []).0)
 
 pub slice_bounds-hand_over-end-2 : goal.slice_bounds-hand_over-end-2
-slice_bounds-hand_over-end-2 c = puts_room _ _ _ _ _ (c.put_last-n.ensures []).0
-
-pub slice_bounds-hand_over-end-3 : goal.slice_bounds-hand_over-end-3
-slice_bounds-hand_over-end-3 c = sym (length-take-le _ _ (puts_room _ _ _ _ _ (c.put_last-n.ensures []).0))
+slice_bounds-hand_over-end-2 c = sym (length-take-le _ _ (puts_room _ _ _ _ _ (c.put_last-n.ensures []).0))
 
 pub returns : goal.returns
 returns c =
@@ -56,4 +55,4 @@ returns c =
     let all = ap length (left_all a.tape.now a.b.count a.b.at (state_of a.longs.now a.words.now)) in
     let first = t.0.end in
     let end = l.0.end in
-    omega (arith, n, end, c.loop-p.invariant.6, last, all, first, c.requires.2, t.1, l.1, c.loop-p.invariant.4, c.loop-p.invariant.5)
+    omega (arith, n, end, c.loop-p.invariant.1, last, all, first, t.1, l.1, c.loop-p.invariant.0)

@@ -8,12 +8,7 @@ use Rattle.print.proofs.print_messages.Given as goal
 
 abbrev pub invariant-loop-p : goal.invariant-loop-p
 invariant-loop-p l =
-    (length l.longs ≡ length l.initial.longs)
-    × (length l.words ≡ length l.initial.words)
-    × (length l.list ≡ length l.initial.list)
-    × (length l.page ≡ length l.initial.page)
-    × (length l.page ≡ 640000)
-    × (l.p.at ≤ 128000)
+    (l.p.at ≤ 128000)
     × (counted (l.total + (l.p.at + length (left_text l.tape l.count l.p.position l.p.next (state_of l.longs l.words)))) ≡ counted (l.initial.p.at + length (left_text l.tape l.count l.initial.p.position l.initial.p.next (state_of l.initial.longs l.initial.words))))
 
 abbrev pub decreases-loop-p : goal.decreases-loop-p

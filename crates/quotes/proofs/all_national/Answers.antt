@@ -1,4 +1,4 @@
-use mathlib.Core.Path.{refl, sym, ◌∙◌}
+use mathlib.Core.Path.{sym, ◌∙◌}
 use mathlib.Core.Bool.{Bool}
 use mathlib.Core.List.{List}
 use Prim.Native.Nat.{◌+◌}
@@ -12,9 +12,6 @@ use Rattle.quotes.proofs.all_national.Goals as goal
 
 abbrev pub of_quotes : List Leg → List Quote → Bool
 of_quotes ls qs = all_national qs
-
-pub loop-k-init : goal.loop-k-init
-loop-k-init c = (omega arith, c.leg_count-n.ensures, refl)
 
 pub returns-then-words-k-eq0 : goal.returns-then-words-k-eq0
 returns-then-words-k-eq0 c longs =

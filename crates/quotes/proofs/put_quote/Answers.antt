@@ -1,22 +1,6 @@
 use native.Mathlib.Omega.{arith}
-use lib.ListN.{length-set}
 use Rattle.quotes.proofs.QuoteLaws.{requoted}
 use Rattle.quotes.proofs.put_quote.Goals as goal
 
-pub bounds-words-k-2 : goal.bounds-words-k-2
-bounds-words-k-2 c = simp length-set (omega arith)
-
-pub bounds-words-k-3 : goal.bounds-words-k-3
-bounds-words-k-3 c = simp length-set (omega arith)
-
-pub bounds-words-k-4 : goal.bounds-words-k-4
-bounds-words-k-4 c = simp length-set (omega arith)
-
-pub bounds-words-k-5 : goal.bounds-words-k-5
-bounds-words-k-5 c = simp length-set (omega arith)
-
-pub bounds-words-k-6 : goal.bounds-words-k-6
-bounds-words-k-6 c = simp length-set (omega arith)
-
 pub returns : goal.returns
-returns c = requoted c.args.words.now c.args.k c.args.q c.requires.0 c.requires.1
+returns c = requoted c.args.words.now c.args.k c.args.q (omega arith) c.requires

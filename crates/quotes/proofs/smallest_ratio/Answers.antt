@@ -34,8 +34,8 @@ loop-k-preserved c =
       omega arith,
       omega arith,
       c.loop-k.invariant.2,
-      omega (arith, c.loop-k.invariant.3, c.lesser-t.ensures),
-      ap (λ (x : ℕ). smallest_ratio_from x (legs_from w (k + 1))) (c.lesser-t.ensures ∙ ap (min c.loop-k.t) c.ratio_at.ensures) ∙ sym (next-leg (of_legs_from c.loop-k.t) w k (omega arith)) ∙ c.loop-k.invariant.4,
+      omega (arith, c.loop-k.invariant.3, c.min-t.ensures),
+      ap (λ (x : ℕ). smallest_ratio_from x (legs_from w (k + 1))) (c.min-t.ensures ∙ ap (min c.loop-k.t) c.ratio_at.ensures) ∙ sym (next-leg (of_legs_from c.loop-k.t) w k (omega arith)) ∙ c.loop-k.invariant.4,
     )
 
 pub returns : goal.returns

@@ -8,8 +8,8 @@ use Rattle.quotes.proofs.times.Goals as goal
 
 pub overflow_mul-result : goal.overflow_mul-result
 overflow_mul-result c =
-    let m : c.wide.result * c.wide-2.result ≤ most_cost = mul-le-mul {n₂ = most_ratio} (omega arith) c.wide-2.ensures.1 in
+    let m : c.from.result * c.from-2.result ≤ most_cost = mul-le-mul {n₂ = most_ratio} {m₂ = 4_294_967_295} (omega arith) (omega arith) in
     record { fits = omega arith }
 
 pub returns : goal.returns
-returns c = (ap₂ ◌*◌ c.wide.ensures.0 c.wide-2.ensures.0, mul-le-mul {n₂ = most_ratio} (omega arith) c.wide-2.ensures.1)
+returns c = (ap₂ ◌*◌ c.from.ensures c.from-2.ensures, mul-le-mul {n₂ = most_ratio} {m₂ = 4_294_967_295} (omega arith) (omega arith))

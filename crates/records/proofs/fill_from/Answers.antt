@@ -1,5 +1,6 @@
 use mathlib.Core.Path.{◌≡◌, refl, sym, ◌∙◌}
 use mathlib.Core.List.{[], ◌∷◌}
+use lib.ListN.{get_or}
 use mir.Syntax.{w64}
 use mir.Val.{to_z, of_z}
 use Rattle.records.proofs.RecordLaws.{held_four}
@@ -8,17 +9,17 @@ use Rattle.records.proofs.fill_from.Goals as goal
 
 pub returns : goal.returns
 returns c =
-    let a = c.args in
-    let z : to_z w64 (of_z w64 c.cents-paid.result) ≡ c.cents-paid.result = search rules in (
+    let n = c.args.numbers.now in
+    let z : to_z w64 (of_z w64 c.cents.result) ≡ c.cents.result = search rules in (
       λ i. record {
-        number = a.number;
-        order = c.narrowed-named.ensures i;
-        rank = c.rank_from-ranked.ensures i;
-        contra = c.contra_from-other.ensures i;
-        price = (z ∙ c.cents-paid.ensures) i;
-        units = c.narrowed-given.ensures i;
+        number = get_or n 0 0;
+        order = c.narrowed.ensures i;
+        rank = c.from.ensures i;
+        contra = c.from-2.ensures i;
+        price = (z ∙ c.cents.ensures) i;
+        units = c.narrowed-2.ensures i;
       },
-      c.legs_from-legs.ensures (a.p0 ∷ a.p1 ∷ a.p2 ∷ a.p3 ∷ []) refl,
-      (λ i. c.price_from-q0.ensures i ∷ c.price_from-q1.ensures i ∷ c.price_from-q2.ensures i ∷ c.price_from-q3.ensures i ∷ [])
-          ∙ sym (held_four a.n a.p0 a.p1 a.p2 a.p3),
+      c.legs_from.ensures (get_or n 7 0 ∷ get_or n 8 0 ∷ get_or n 9 0 ∷ get_or n 10 0 ∷ []) refl,
+      (λ i. c.price_from.ensures i ∷ c.price_from-2.ensures i ∷ c.price_from-3.ensures i ∷ c.price_from-4.ensures i ∷ [])
+          ∙ sym (held_four (get_or n 6 0) (get_or n 7 0) (get_or n 8 0) (get_or n 9 0) (get_or n 10 0)),
     )

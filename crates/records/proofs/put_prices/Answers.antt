@@ -16,7 +16,7 @@ pub bounds-list-b-then-j-list-4 : goal.bounds-list-b-then-j-list-4
 bounds-list-b-then-j-list-4 c = simp length-set (omega arith)
 
 pub returns-then-j-list : goal.returns-then-j-list
-returns-then-j-list c = let a = c.args in prices-one a.list.now a.j a.n a.prices.now c.requires
+returns-then-j-list c = let a = c.args in prices-one a.list.now a.j a.n a.prices.now (omega arith)
 
 pub returns-else-j-list : goal.returns-else-j-list
 returns-else-j-list c = let a = c.args in prices_none a.list.now a.j _ (omega arith)

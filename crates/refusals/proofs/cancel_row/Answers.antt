@@ -1,4 +1,5 @@
 use Rattle.refusals.proofs.cancel_row.Goals as goal
 
 pub returns : goal.returns
-returns c = λ longs. rw (c.first.ensures, (c.standing_of-known.ensures longs).0)
+returns c = λ longs.
+    rw (c.when.ensures.number, (c.standing_of-known.ensures longs).0)

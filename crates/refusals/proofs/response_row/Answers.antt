@@ -3,19 +3,33 @@ use mir.Syntax.{w32}
 use mir.Facts.{to_z-of_z}
 use Rattle.rules.specs.Refusals.{good_fields}
 use borrow.Author.Rules.{rules}
+use Rattle.types.proofs.RefusalLaws.{handed_on}
 use Rattle.refusals.proofs.response_row.Goals as goal
+
+pub returns-in_err-when : goal.returns-in_err-when
+returns-in_err-when c = λ longs.
+    let pending = rw (c.is_pending.ensures longs) at c.in_err-when.ensures.err in
+    rw (handed_on _ _ c.from_residual.ensures.1, c.in_err-when.ensures.number, c.in_err-when.ensures.err, pending)
+
+pub returns-in_err-when-2 : goal.returns-in_err-when-2
+returns-in_err-when-2 c = λ longs.
+    let a = c.args in
+    let pending = rw (c.is_pending.ensures longs) at c.in_ok-when.ensures.ok in
+    let fields = rw (c.good_fields-fields.ensures ∙ ap (good_fields a.t.side a.t.id a.t.participant a.t.units) (to_z-of_z {w = w32} {z = a.t.price} (search rules)), c.good_account-account.ensures) at c.in_err-when-2.ensures.err in
+    rw (pending, handed_on _ _ c.from_residual-in_err-when-2.ensures.1, c.in_err-when-2.ensures.number, c.in_err-when-2.ensures.err, fields)
+
+pub returns-in_err-when-3 : goal.returns-in_err-when-3
+returns-in_err-when-3 c = λ longs.
+    let a = c.args in
+    let pending = rw (c.is_pending.ensures longs) at c.in_ok-when.ensures.ok in
+    let fields = rw (c.good_fields-fields.ensures ∙ ap (good_fields a.t.side a.t.id a.t.participant a.t.units) (to_z-of_z {w = w32} {z = a.t.price} (search rules)), c.good_account-account.ensures) at c.in_ok-when-2.ensures.ok in
+    let taken = rw (c.is_open.ensures longs) at c.in_err-when-3.ensures.err in
+    rw (pending, fields, handed_on _ _ c.from_residual-in_err-when-3.ensures.1, c.in_err-when-3.ensures.number, c.in_err-when-3.ensures.err, taken)
 
 pub returns : goal.returns
 returns c = λ longs.
     let a = c.args in
-    rw (
-      c.first.ensures,
-      c.first-below.ensures,
-      c.first-under.ensures,
-      c.first-last.ensures,
-      (c.open_counts-counts.ensures longs).1,
-      c.is_open-taken.ensures longs,
-      c.good_fields-fields.ensures ∙ ap (good_fields a.t.side a.t.id a.t.participant a.t.units) (to_z-of_z {w = w32} {z = a.t.price} (search rules)),
-      c.good_account-account.ensures,
-      c.is_pending-pending.ensures longs,
-    )
+    let pending = rw (c.is_pending.ensures longs) at c.in_ok-when.ensures.ok in
+    let fields = rw (c.good_fields-fields.ensures ∙ ap (good_fields a.t.side a.t.id a.t.participant a.t.units) (to_z-of_z {w = w32} {z = a.t.price} (search rules)), c.good_account-account.ensures) at c.in_ok-when-2.ensures.ok in
+    let taken = rw (c.is_open.ensures longs) at c.in_ok-when-3.ensures.ok in
+    rw (pending, fields, taken, c.when-4.ensures.number, (c.open_counts.ensures longs).1)

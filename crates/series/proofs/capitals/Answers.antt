@@ -1,25 +1,20 @@
-use mathlib.Core.Path.{◌≡◌, refl, sym, ◌∙◌}
+-- The place of the first byte that is no capital, or else 6.
+use mathlib.Core.Path.{◌≡◌, ◌∙◌}
+use mathlib.Core.Bool.{not}
 use native.Mathlib.Omega.{arith}
-use borrow.Author.Rules.{rules}
 use lib.ListN.{length}
-use Rattle.series.proofs.SymbolLaws.{padded-go, padded-stop, padded_end}
+use Rattle.std.proofs.Common.{rules, tests}
+use Rattle.std.proofs.lemmas.Iterator.{YieldsList-from_slice}
+use Rattle.std.proofs.lemmas.Iterator.Search.{position_from_yields_List}
+use Rattle.std.proofs.lemmas.List.Sums.{prefix_len-le-length}
+use Rattle.rules.specs.Series.{is_capital, root_of}
+use Rattle.series.proofs.SymbolLaws.{or_end, capitals_in}
 use Rattle.series.proofs.capitals.Goals as goal
-
-pub loop-at-init : goal.loop-at-init
-loop-at-init c = (search rules, refl)
-
-pub returns-then-not-within : goal.returns-then-not-within
-returns-then-not-within c =
-    let s = c.args.symbol in
-    let l : length s ≡ 21 = search rules in
-    (search rules, sym c.loop-at.invariant.1 ∙ padded-stop s c.loop-at.at (omega arith) (omega arith) (sym c.within.ensures ∙ c.if-not-within.true))
-
-pub loop-at-preserved : goal.loop-at-preserved
-loop-at-preserved c =
-    let s = c.args.symbol in
-    let l : length s ≡ 21 = search rules in
-    (search rules, sym (padded-go s c.loop-at.at (omega arith) (omega arith) (sym c.within.ensures ∙ c.if-not-within.false)) ∙ c.loop-at.invariant.1)
 
 pub returns : goal.returns
 returns c =
-    (search rules, sym c.loop-at.invariant.1 ∙ padded_end c.args.symbol c.loop-at.at (omega arith))
+    let root = root_of c.args.symbol.now in
+    let l : length root ≡ 6 = search rules in
+    let o = c.position-other.result in
+    let found = position_from_yields_List (λ b. not (is_capital b)) _ _ o c.position-other.ensures.ran (YieldsList-from_slice root c.iter.ensures.rest) (λ x b q k. search (rules, tests)) in
+    c.unwrap_or.ensures ∙ or_end o (capitals_in root) 6 (omega (arith, l, prefix_len-le-length (λ b. not (not (is_capital b))) root)) (rw l at found)

@@ -7,6 +7,6 @@ use Rattle.series.proofs.good_strike.Goals as goal
 
 pub returns : goal.returns
 returns c =
-    let s = c.args.symbol in
+    let s = c.args.symbol.now in
     let l : length s ≡ 21 = search rules in
     rw (c.all_within.ensures, c.all_within-2.ensures) (sym (strike_is s l))

@@ -6,7 +6,7 @@ use borrow.Author.Rules.{rules}
 use Rattle.session.proofs.run.Goals as goal
 
 pub loop-position-init : goal.loop-position-init
-loop-position-init c = (refl, refl, refl, told-start _ _ _ _ _ _ _ (let e = c.lesser_size-at.ensures in omega (arith, e)))
+loop-position-init c = (refl, refl, refl, told-start _ _ _ _ _ _ _ (let e = c.min-at.ensures in omega (arith, e)))
 
 pub shape_of-out-then-most-at : goal.shape_of-out-then-most-at
 shape_of-out-then-most-at c = let v = c.loop-position.invariant.3.puts.puts in puts_same _ _ _ _ _ v
@@ -14,7 +14,7 @@ shape_of-out-then-most-at c = let v = c.loop-position.invariant.3.puts.puts in p
 pub returns-then-most-at : goal.returns-then-most-at
 returns-then-most-at c =
     let a = c.args in
-    record { told = told-from a.tape.now a.count a.p _ _ _ _ _ _ _ c.lesser_size-at.ensures c.loop-position.invariant.3; end = λ h. c.if-most-at.true }
+    record { told = told-from a.tape.now a.count a.p _ _ _ _ _ _ _ c.min-at.ensures c.loop-position.invariant.3; end = λ h. c.if-most-at.true }
 
 pub loop-position-preserved : goal.loop-position-preserved
 loop-position-preserved c =
@@ -33,4 +33,4 @@ shape_of-out c = let v = c.loop-position.invariant.3.puts.puts in puts_same _ _ 
 pub returns : goal.returns
 returns c =
     let a = c.args in
-    record { told = told-from a.tape.now a.count a.p _ _ _ _ _ _ _ c.lesser_size-at.ensures c.loop-position.invariant.3; end = λ h. absurd (omega (arith, h, c.loop-position-test.false)) }
+    record { told = told-from a.tape.now a.count a.p _ _ _ _ _ _ _ c.min-at.ensures c.loop-position.invariant.3; end = λ h. absurd (omega (arith, h, c.loop-position-test.false)) }

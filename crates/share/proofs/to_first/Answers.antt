@@ -4,7 +4,6 @@ use Prim.Native.Nat.{ℕ, min, ◌≤◌}
 use native.Mathlib.Omega.{arith}
 use lib.ListN.{drop}
 use lib.Seq.{drop-set-lt}
-use borrow.Author.Rules.{rules}
 use Rattle.share.proofs.LeftoverLaws.{first_is, none_is}
 use Rattle.share.proofs.to_first.Goals as goal
 
@@ -18,13 +17,12 @@ returns-then-n-gt0 c =
     let a = c.args in
     let I = c.in_turn in
     let out = I.new.out in (
-      search rules,
-      first_is a.n a.amount a.sizes.now out (omega arith) c.requires.3 I.ensures.1,
-      drop-set-lt a.n out 0 a.amount (omega arith) ∙ kept a.n I.new.out a.out.now c.requires.0 I.ensures.2,
+      first_is a.n a.amount a.sizes.now out (omega arith) c.requires.1 I.ensures.0,
+      drop-set-lt a.n out 0 a.amount (omega arith) ∙ kept a.n I.new.out a.out.now c.requires.0 I.ensures.1,
     )
 
 pub returns-else-n-gt0 : goal.returns-else-n-gt0
 returns-else-n-gt0 c =
     let a = c.args in
     let I = c.in_turn in
-    (I.ensures.0, none_is a.n a.amount a.sizes.now I.new.out (omega arith), kept a.n I.new.out a.out.now c.requires.0 I.ensures.2)
+    (none_is a.n a.amount a.sizes.now I.new.out (omega arith), kept a.n I.new.out a.out.now c.requires.0 I.ensures.1)

@@ -6,4 +6,4 @@ use Rattle.tape.proofs.message_at.Goals as goal
 pub returns : goal.returns
 returns c =
     let a = c.args in
-    c.message_of.ensures ∙ ap message_of (part_at a.tape.now a.at c.start_of-start.result c.start_of-start.ensures)
+    c.message_of.ensures ∙ ap message_of (part_at a.tape.now a.at c.min.result c.min.ensures)

@@ -4,7 +4,7 @@ use native.Mathlib.Omega.{arith}
 use Rattle.text.proofs.add_averages.Goals as goal
 
 pub loop-i-init : goal.loop-i-init
-loop-i-init c = (omega arith, let a = c.args in each_start _ _ _ _ _ (no_averages a.list.now a.n) c.lesser_size-at.ensures)
+loop-i-init c = (omega arith, let a = c.args in each_start _ _ _ _ _ (no_averages a.list.now a.n) c.min-at.ensures)
 
 pub loop-i-preserved : goal.loop-i-preserved
 loop-i-preserved c =
@@ -18,4 +18,4 @@ pub returns : goal.returns
 returns c =
     let L = c.loop-i in
     let a = c.args in
-    averages_end a.list.now a.n _ _ _ _ _ (omega (arith, L.invariant.0, c.loop-i-test.false, c.lesser_size-count.ensures)) L.invariant.1
+    averages_end a.list.now a.n _ _ _ _ _ (omega (arith, L.invariant.0, c.loop-i-test.false, c.min-count.ensures)) L.invariant.1

@@ -5,7 +5,7 @@ use Rattle.text.proofs.FillLaws.{no_fills, one-fill}
 use Rattle.text.proofs.add_fills.Goals as goal
 
 pub loop-i-init : goal.loop-i-init
-loop-i-init c = (omega arith, each_start _ _ _ _ _ (no_fills c.args.list.now) c.lesser_size-at.ensures)
+loop-i-init c = (omega arith, each_start _ _ _ _ _ (no_fills c.args.list.now) c.min-at.ensures)
 
 pub loop-i-preserved : goal.loop-i-preserved
 loop-i-preserved c =

@@ -10,4 +10,4 @@ returns-then-is_first c =
 pub returns : goal.returns
 returns c =
     let a = c.args in
-    no_average _ _ _ _ (not_first a.list.now a.n a.j (sym c.is_first.ensures ∙ c.if-is_first.false)) c.lesser_size.ensures
+    no_average _ _ _ _ (not_first a.list.now a.n a.j (sym c.is_first.ensures ∙ c.if-is_first.false)) c.min.ensures

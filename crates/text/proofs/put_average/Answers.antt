@@ -12,4 +12,4 @@ pub returns : goal.returns
 returns c =
     let e = to_z-of_z {w = w64} {z = c.args.quotient} (search rules) in
     let q = same (ap (λ (z : ℤ). 32 ∷ signed_digits z) e) c.put_signed-at.ensures.0 in
-    whole (join c.put_word-at.ensures.0 (join c.put_next-at.ensures.0 (join q (join c.put_next-at-2.ensures.0 c.put_byte.ensures.0)))) (search rules) (search rules)
+    whole (join c.put_word-at.ensures (join c.put_next-at.ensures.0 (join q (join c.put_next-at-2.ensures.0 c.put_byte.ensures.0)))) (search rules) (search rules)

@@ -10,7 +10,7 @@ use Rattle.text.proofs.put_fill.Goals as goal
 
 pub returns : goal.returns
 returns c =
-    let e = to_z-of_z {w = w64} {z = c.args.f.price} (search (rules, c.struct_told-1.given)) in
+    let e = to_z-of_z {w = w64} {z = c.args.f.price} (search rules) in
     let p = same (ap (λ (z : ℤ). 32 ∷ signed_digits z) e) c.put_signed-at.ensures.0 in
     whole
     (join c.put_number-at.ensures.0

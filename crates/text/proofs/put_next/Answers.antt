@@ -5,4 +5,4 @@ use Rattle.text.proofs.put_next.Goals as goal
 pub returns : goal.returns
 returns c =
     let b = c.put_byte-at.ensures.0 in
-    (join b c.put_number.ensures.0, c.put_number.ensures.1, omega (arith, b.end))
+    (join b c.put_number.ensures.0, omega (arith, b.end))

@@ -5,4 +5,4 @@ use Rattle.text.proofs.put_rank.Goals as goal
 pub returns : goal.returns
 returns c =
     let b = c.put_byte-at.ensures in
-    (rw (← c.letter_of.ensures) (join b.0 c.put_byte.ensures.0), c.put_byte.ensures.1, omega arith)
+    (rw (← c.letter_of.ensures) (join b.0 c.put_byte.ensures.0), omega arith)

@@ -1,12 +1,15 @@
+use mathlib.Core.Path.{◌≡◌}
+use Rattle.types.specs.Refusals.{number_of}
 use Rattle.text.proofs.PutsLaws.{puts_then}
 use Rattle.session.proofs.TapeLaws.{back-text, read-text}
 use Rattle.tumghavi.proofs.OutputLaws.{all_put}
 use Rattle.tumghavi.proofs.tumghavi_print.Goals as goal
 
-pub returns-then-b-ne0 : goal.returns-then-b-ne0
-returns-then-b-ne0 c =
-    all_put _ _ _ _ _ (back-text _ _ _ c.begin-b.new.longs c.begin-b.new.words c.begin-b.result c.begin-b.ensures c.if-b-ne0.true) c.put_refused.ensures.0
+pub returns-in-Ok : goal.returns-in-Ok
+returns-in-Ok c =
+    all_put _ _ _ _ _ (read-text _ _ _ c.begin.new.longs c.begin.new.words c.in-Ok.b c.in-Ok.ensures) (puts_then _ _ _ _ _ _ _ _ c.put_title-at.ensures.0 c.put_messages.ensures)
 
-pub returns : goal.returns
-returns c =
-    all_put _ _ _ _ _ (read-text _ _ _ c.begin-b.new.longs c.begin-b.new.words c.begin-b.result c.begin-b.ensures c.if-b-ne0.false) (puts_then _ _ _ _ _ _ _ _ c.put_title-at.ensures.0 c.put_messages.ensures)
+pub returns-in-Err : goal.returns-in-Err
+returns-in-Err c =
+    let e : c.from.result ≡ number_of c.in-Err.row = c.from.ensures in
+    all_put _ _ _ _ _ (back-text _ _ _ c.begin.new.longs c.begin.new.words c.in-Err.row c.in-Err.ensures) (rw e at c.put_refused.ensures.0)

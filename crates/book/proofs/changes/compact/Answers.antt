@@ -1,5 +1,8 @@
+use mathlib.Core.Path.{◌∙◌}
+use mathlib.Core.Bool.{false}
 use native.Mathlib.Omega.{arith}
-use lib.ListN.{length-set}
+use lib.ListN.{get_or}
+use Rattle.book.proofs.StoreLaws.{counted-flag}
 use Rattle.book.proofs.BookLaws.{going_start, going_step, going_end}
 use borrow.Author.Rules.{rules}
 use Rattle.book.proofs.changes.compact.Goals as goal
@@ -13,17 +16,15 @@ loop-k-init c =
 pub loop-k-preserved : goal.loop-k-preserved
 loop-k-preserved c =
     let a = c.args in
-    let v = c.loop-k.invariant in (
+    let v = c.loop-k.invariant in
+    let one = counted-flag (get_or a.keep.now c.loop-k.k false) in (
       omega arith,
       omega arith,
       v.2,
       rw (c.put_entry.ensures.0, c.put_entry.ensures.1)
-          (going_step a.keep.now a.longs.now a.words.now c.open_count-m.result (omega (arith, v.2)) c.loop-k.longs c.loop-k.words c.loop-k.w c.loop-k.k c.one_if-w.result c.entry_at-e.result v.3 (omega arith) v.1
-          c.entry_at-e.ensures c.one_if-w.ensures.0),
+          (going_step a.keep.now a.longs.now a.words.now c.open_count-m.result (omega (arith, v.2)) c.loop-k.longs c.loop-k.words c.loop-k.w c.loop-k.k c.from-w.result c.entry_at-e.result v.3 (omega arith) v.1
+          c.entry_at-e.ensures (c.from-w.ensures ∙ one.0)),
     )
-
-pub shape_of-words : goal.shape_of-words
-shape_of-words c = let e = c.loop-k.invariant.3.sized.1 in simp length-set (omega arith)
 
 pub returns : goal.returns
 returns c =

@@ -1,14 +1,14 @@
+use mathlib.Core.Path.{sym}
 use native.Mathlib.Omega.{arith}
+use Rattle.book.proofs.FindLaws.{first-found}
 use Rattle.book.proofs.ReduceLaws.{one-reduced, none-reduced}
-use borrow.Author.Rules.{rules}
 use Rattle.book.proofs.changes.reduce.Goals as goal
 
-pub returns-then-k-m : goal.returns-then-k-m
-returns-then-k-m c longs =
+pub returns-in-Some : goal.returns-in-Some
+returns-in-Some c longs =
     let a = c.args in
-    one-reduced longs a.words.now a.id a.units c.find-k.result c.find-k.ensures.2 (search rules) (omega arith)
+    let f = first-found a.words.now a.id c.in-Some.k (omega arith) (sym c.in-Some.ensures.place) in
+    one-reduced longs a.words.now a.id a.units c.in-Some.k f.1 (omega arith) f.0
 
-pub returns-else-k-m : goal.returns-else-k-m
-returns-else-k-m c longs =
-    let a = c.args in
-    none-reduced longs a.words.now a.id a.units c.find-k.result c.find-k.ensures.2 (omega arith)
+pub returns-in_default : goal.returns-in_default
+returns-in_default c longs = none-reduced longs c.args.words.now c.args.id c.args.units (c.in_default.ensures.entry longs)

@@ -1,8 +1,16 @@
-use borrow.Author.Tests.{le-ltb}
+use mathlib.Core.Path.{sym}
+use native.Mathlib.Omega.{arith}
+use Rattle.book.proofs.FindLaws.{first-found}
 use Rattle.book.proofs.GapLaws.{nobody_leaves}
 use Rattle.book.proofs.changes.remove.Goals as goal
 
-pub returns-else-k-m : goal.returns-else-k-m
-returns-else-k-m c =
+pub remove_from-requires : goal.remove_from-requires
+remove_from-requires c =
     let a = c.args in
-    nobody_leaves a.longs.now a.words.now a.id (rw (c.find-k.ensures.1 a.longs.now, ← c.open_count-m.ensures, le-ltb _ _ c.if-k-m.false))
+    let f = first-found a.words.now a.id c.in-Some.k (omega arith) (sym c.in-Some.ensures.place) in
+    (f.1, f.0)
+
+pub returns-in_default : goal.returns-in_default
+returns-in_default c =
+    let a = c.args in
+    nobody_leaves a.longs.now a.words.now a.id (c.in_default.ensures.entry a.longs.now)

@@ -16,4 +16,4 @@ returns c =
     let a = c.args in
     let k = c.close_gap.ensures in
     becomes a.longs.now a.words.now c.close_gap.new.longs c.close_gap.new.words _ k.longs k.words
-    (k.entries (λ e. not (eqb e.id a.id)) (alone a.id a.words.now a.k c.requires.1 c.requires.2 (λ i h. c.any_from.ensures c.if-any_from.false i (omega arith))))
+    (k.entries (λ e. not (eqb e.id a.id)) (alone a.id a.words.now a.k c.requires.0 c.requires.1 (λ i h. c.any_from.ensures c.if-any_from.false i (omega arith))))

@@ -1,7 +1,7 @@
-use mathlib.Core.Path.{◌∙◌}
+use native.Mathlib.Omega.{arith}
 use Rattle.engine.proofs.RouteLaws.{closed_is}
 use Rattle.engine.proofs.route.close.Goals as goal
 
 pub returns : goal.returns
 returns c =
-    closed_is c.args.longs.now c.args.words.now c.close.new.longs c.close.new.words (c.words-1.given ∙ c.requires.1) c.close.ensures
+    closed_is c.args.longs.now c.args.words.now c.close.new.longs c.close.new.words (omega arith) c.close.ensures

@@ -1,4 +1,5 @@
 use mathlib.Core.Path.{sym, ◌∙◌}
+use native.Mathlib.Omega.{arith}
 use Rattle.types.specs.View.{derived_of}
 use Rattle.execution.proofs.KeptLaws.{taken-outside, taken-other, taken-kept}
 use Rattle.execution.proofs.kept.less_kept.Goals as goal
@@ -11,7 +12,7 @@ returns-then-words-eq0 c =
 pub returns-then-is_kept : goal.returns-then-is_kept
 returns-then-is_kept c =
     let a = c.args in
-    rw c.less.ensures (taken-kept a.longs.now a.words.now (derived_of a.d) a.taken c.requires.1 (sym c.is_kept.ensures ∙ c.if-is_kept.true))
+    rw c.saturating_sub.ensures (taken-kept a.longs.now a.words.now (derived_of a.d) a.taken (omega arith) (sym c.is_kept.ensures ∙ c.if-is_kept.true))
 
 pub returns-else-is_kept : goal.returns-else-is_kept
 returns-else-is_kept c =

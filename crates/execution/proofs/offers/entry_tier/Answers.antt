@@ -2,4 +2,4 @@ use mathlib.Core.Path.{◌∙◌}
 use Rattle.execution.proofs.offers.entry_tier.Goals as goal
 
 pub returns : goal.returns
-returns c = c.tier.ensures ∙ rw (c.wide-price.ensures.0, c.entry_rank.ensures.0, c.is_set-customer.ensures)
+returns c = c.tier.ensures ∙ rw (c.from-price.ensures, c.entry_rank.ensures, c.is_set-customer.ensures)

@@ -5,7 +5,7 @@ use Rattle.legprices.proofs.RangeLaws.{Taking}
 use Rattle.legprices.proofs.quoted.prices_taken.Given as goal
 
 abbrev pub invariant-loop-k : goal.invariant-loop-k
-invariant-loop-k l = (l.k ≤ l.n) × (l.n ≡ leg_count l.words) × Taking l.words l.buy l.lowered l.taken l.prices l.k
+invariant-loop-k l = (l.k ≤ l.n) × (l.n ≡ leg_count l.words) × Taking l.words l.buy l.taken l.prices l.k
 
 abbrev pub decreases-loop-k : goal.decreases-loop-k
 decreases-loop-k l = l.n - l.k

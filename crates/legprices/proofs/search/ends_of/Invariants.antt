@@ -7,10 +7,10 @@ use Rattle.legprices.specs.Found.{least_paid, most_got, greatest}
 use Rattle.legprices.proofs.search.ends_of.Given as goal
 
 abbrev pub invariant-loop-i : goal.invariant-loop-i
-invariant-loop-i l = (l.i ≤ l.n)
-    × (l.paid ≤ l.i * 90000000000) × (l.paid + least_paid (from (range_at l.plus l.ratios l.bids l.widths) l.i l.n) ≡ least_paid (from (range_at l.plus l.ratios l.bids l.widths) 0 l.n))
-    × (l.got ≤ l.i * 90000000000) × (l.got + most_got (from (range_at l.plus l.ratios l.bids l.widths) l.i l.n) ≡ most_got (from (range_at l.plus l.ratios l.bids l.widths) 0 l.n))
-    × (l.most ≤ l.i * 90000000000) × (l.most + greatest (spans_from l.ratios l.widths l.i l.n) ≡ greatest (spans_from l.ratios l.widths 0 l.n))
+invariant-loop-i l = (l.i ≤ l.legs.count)
+    × (l.paid ≤ l.i * 90000000000) × (l.paid + least_paid (from (range_at l.legs) l.i l.legs.count) ≡ least_paid (from (range_at l.legs) 0 l.legs.count))
+    × (l.got ≤ l.i * 90000000000) × (l.got + most_got (from (range_at l.legs) l.i l.legs.count) ≡ most_got (from (range_at l.legs) 0 l.legs.count))
+    × (l.most ≤ l.i * 90000000000) × (l.most + greatest (spans_from l.legs l.i) ≡ greatest (spans_from l.legs 0))
 
 abbrev pub decreases-loop-i : goal.decreases-loop-i
-decreases-loop-i l = l.n - l.i
+decreases-loop-i l = l.legs.count - l.i

@@ -1,4 +1,5 @@
 use mathlib.Core.Path.{sym, ◌∙◌}
+use native.Mathlib.Omega.{arith}
 use Rattle.rules.specs.Prices.{most_cents}
 use Rattle.legprices.specs.Ranges.{ranges_in}
 use Rattle.legprices.proofs.FoundLaws.{search-none, search-sum}
@@ -9,11 +10,10 @@ pub returns-then-got-paid : goal.returns-then-got-paid
 returns-then-got-paid c =
     let a = c.args in
     let e = c.ends_of-ends.ensures in
-    (c.requires.4, sym (search-none (ranges_in a.plus.now a.ratios.now a.bids.now a.widths.now a.n) most_cents a.price c.ends_of-ends.result.paid c.ends_of-ends.result.got (ranges-ordered a.plus.now a.ratios.now a.bids.now a.widths.now 0 a.n) e.0 e.2 c.if-got-paid.true))
+    (omega arith, sym (search-none (ranges_in a.legs.now) most_cents a.price c.ends_of-ends.result.paid c.ends_of-ends.result.got (ranges-ordered a.legs.now 0) e.0 e.2 c.if-got-paid.true))
 
 pub returns : goal.returns
 returns c =
     let a = c.args in
     let e = c.ends_of-ends.ensures in
-    let m = c.found.ensures in
-    (m.0, m.1 ∙ sym (search-sum (ranges_in a.plus.now a.ratios.now a.bids.now a.widths.now a.n) most_cents a.price c.ends_of-ends.result.paid c.ends_of-ends.result.got (ranges-ordered a.plus.now a.ratios.now a.bids.now a.widths.now 0 a.n) e.0 e.2 c.if-got-paid.false))
+    (omega arith, c.found.ensures ∙ sym (search-sum (ranges_in a.legs.now) most_cents a.price c.ends_of-ends.result.paid c.ends_of-ends.result.got (ranges-ordered a.legs.now 0) e.0 e.2 c.if-got-paid.false))

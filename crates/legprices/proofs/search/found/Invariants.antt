@@ -8,8 +8,8 @@ use Rattle.legprices.specs.Found.{found, greatest, behind}
 use Rattle.legprices.proofs.search.found.Given as goal
 
 abbrev pub invariant-loop-i : goal.invariant-loop-i
-invariant-loop-i l = (l.i ≤ l.n) × (length l.prices ≡ 4) × (l.rest ≡ greatest (spans_from l.ratios l.widths l.i l.n))
-    × (behind (take l.i l.prices) (found (from (range_at l.plus l.ratios l.bids l.widths) l.i l.n) l.s) ≡ found (from (range_at l.plus l.ratios l.bids l.widths) 0 l.n) l.sum)
+invariant-loop-i l = (l.i ≤ l.legs.count) × (length l.prices ≡ 4) × (l.rest ≡ greatest (spans_from l.legs l.i))
+    × (behind (take l.i l.prices) (found (from (range_at l.legs) l.i l.legs.count) l.s) ≡ found (from (range_at l.legs) 0 l.legs.count) l.sum)
 
 abbrev pub decreases-loop-i : goal.decreases-loop-i
-decreases-loop-i l = l.n - l.i
+decreases-loop-i l = l.legs.count - l.i

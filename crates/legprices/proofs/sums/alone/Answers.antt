@@ -11,14 +11,14 @@ overflow_mul-ratio c = record { fits = omega (arith, mul-le-mul c.requires.0 c.r
 pub returns-then-most-s : goal.returns-then-most-s
 returns-then-most-s c =
     let a = c.args in
-    sym (reach_above (record { ratio = a.ratio; width = a.width } ∷ []) a.s (omega (arith, c.wide-most.ensures.0)))
+    sym (reach_above (record { ratio = a.ratio; width = a.width } ∷ []) a.s (omega (arith, c.from-most.ensures)))
 
 pub returns-then-ratio-lt2 : goal.returns-then-ratio-lt2
 returns-then-ratio-lt2 c =
     let a = c.args in
-    sym (lone-every (record { ratio = a.ratio; width = a.width }) a.s (omega arith) (omega (arith, c.wide-most.ensures.0)))
+    sym (lone-every (record { ratio = a.ratio; width = a.width }) a.s (omega arith) (omega (arith, c.from-most.ensures)))
 
 pub returns : goal.returns
 returns c =
     let a = c.args in
-    lone-divided (record { ratio = a.ratio; width = a.width }) a.s (omega arith) (omega (arith, c.wide-most.ensures.0))
+    lone-divided (record { ratio = a.ratio; width = a.width }) a.s (omega arith) (omega (arith, c.from-most.ensures))

@@ -8,7 +8,7 @@ use Rattle.legprices.proofs.TableLaws.{going-none, going-one, going-all, zero_wo
 use Rattle.legprices.proofs.sums.clear.Goals as goal
 
 pub loop-k-init : goal.loop-k-init
-loop-k-init c = (omega arith, omega arith, going-none table_words c.args.base c.args.bits.now (λ s. eqb s 0) c.requires.0)
+loop-k-init c = (omega arith, omega arith, going-none table_words c.args.base c.args.bits.now (λ s. eqb s 0) (omega arith))
 
 pub loop-k-preserved : goal.loop-k-preserved
 loop-k-preserved c =

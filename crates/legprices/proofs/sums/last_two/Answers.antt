@@ -8,15 +8,15 @@ pub smear-requires : goal.smear-requires
 smear-requires c =
     let a = c.args in
     let sp = c.requires.0 in
-    (c.clear.ensures.sized, omega arith, sp.ratio (a.n - 1), sp.width (a.n - 1), omega (arith, span-most a.ratios.now a.widths.now a.n sp (a.n - 1)))
+    (omega arith, sp.ratio (a.legs.now.count - 1), sp.width (a.legs.now.count - 1), omega (arith, span-most a.legs.now sp (a.legs.now.count - 1)))
 
 pub smear-requires-2 : goal.smear-requires-2
 smear-requires-2 c =
     let a = c.args in
     let sp = c.requires.0 in
-    (c.smear.ensures.sized, omega arith, sp.ratio (a.n - 2), sp.width (a.n - 2), omega (arith, span-most a.ratios.now a.widths.now a.n sp (a.n - 2)))
+    (omega arith, sp.ratio (a.legs.now.count - 2), sp.width (a.legs.now.count - 2), omega (arith, span-most a.legs.now sp (a.legs.now.count - 2)))
 
 pub returns : goal.returns
 returns c =
     let a = c.args in
-    (c.smear-2.ensures.sized, shows-pair a.ratios.now a.widths.now a.n c.requires.0 _ _ _ _ _ c.requires.1 refl c.clear.ensures c.smear.ensures c.smear-2.ensures)
+    shows-pair a.legs.now c.requires.0 _ _ _ _ _ c.requires.1 refl c.clear.ensures c.smear.ensures c.smear-2.ensures

@@ -1,24 +1,24 @@
 use native.Mathlib.Omega.{arith}
-use Rattle.legprices.proofs.MadeLaws.{span-most, made, made-three}
+use Rattle.legprices.proofs.MadeLaws.{changed_copied, span-most, made, made-three}
 use Rattle.legprices.proofs.sums.make.Goals as goal
 
-pub returns-then-n-lt3 : goal.returns-then-n-lt3
-returns-then-n-lt3 c =
+pub returns-then-legs-lt3 : goal.returns-then-legs-lt3
+returns-then-legs-lt3 c =
     let a = c.args in
-    made a.ratios.now a.widths.now a.n c.requires.0 _ c.requires.1 (λ h. absurd (omega arith)) (λ h. absurd (omega arith))
+    made a.legs.now c.requires _ (omega arith) (λ h. absurd (omega arith)) (λ h. absurd (omega arith))
 
 pub smear-requires : goal.smear-requires
 smear-requires c =
     let a = c.args in
-    let sp = c.requires.0 in
-    (c.copy.ensures.sized, omega arith, sp.ratio 1, sp.width 1, omega (arith, span-most a.ratios.now a.widths.now a.n sp 1))
+    let sp = c.requires in
+    (omega arith, sp.ratio 1, sp.width 1, omega (arith, span-most a.legs.now sp 1))
 
-pub returns-then-n-eq4 : goal.returns-then-n-eq4
-returns-then-n-eq4 c =
+pub returns-then-legs-eq4 : goal.returns-then-legs-eq4
+returns-then-legs-eq4 c =
     let a = c.args in
-    made-three a.ratios.now a.widths.now a.n c.requires.0 _ _ _ c.if-n-eq4.true c.last_two.ensures.1 c.copy.ensures c.smear.ensures
+    made-three a.legs.now c.requires _ _ _ c.if-legs-eq4.true c.last_two.ensures (changed_copied _ _ (omega arith) c.copy_within.ensures.by_index.0 c.copy_within.ensures.by_index.2) c.smear.ensures
 
-pub returns-else-n-eq4 : goal.returns-else-n-eq4
-returns-else-n-eq4 c =
+pub returns-else-legs-eq4 : goal.returns-else-legs-eq4
+returns-else-legs-eq4 c =
     let a = c.args in
-    made a.ratios.now a.widths.now a.n c.requires.0 _ c.last_two.ensures.0 (λ h. c.last_two.ensures.1) (λ h. absurd (c.if-n-eq4.false h))
+    made a.legs.now c.requires _ (omega arith) (λ h. c.last_two.ensures) (λ h. absurd (c.if-legs-eq4.false h))

@@ -7,7 +7,7 @@ use Rattle.legprices.proofs.sums.smear.Goals as goal
 pub loop-k-init : goal.loop-k-init
 loop-k-init c =
     let a = c.args in
-    (omega arith, omega arith, changed-none a.words a.base a.bits.now a.ratio c.requires.0)
+    (omega arith, omega arith, changed-none a.words a.base a.bits.now a.ratio (omega arith))
 
 pub overflow_sub-next : goal.overflow_sub-next
 overflow_sub-next c =
@@ -19,7 +19,7 @@ overflow_mul-ratio c =
 
 pub spread-requires : goal.spread-requires
 spread-requires c =
-    (c.loop-k.invariant.2.sized, c.requires.1, omega (arith, read_cost c.args.ratio c.args.width (c.loop-k.k - 1) c.loop-k.h, c.requires))
+    (c.requires.0, omega (arith, read_cost c.args.ratio c.args.width (c.loop-k.k - 1) c.loop-k.h, c.requires))
 
 pub loop-k-preserved : goal.loop-k-preserved
 loop-k-preserved c =

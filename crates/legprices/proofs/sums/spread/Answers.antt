@@ -7,7 +7,7 @@ use Rattle.legprices.proofs.TableLaws.{going-none, going-all, going-moved, moved
 use Rattle.legprices.proofs.sums.spread.Goals as goal
 
 pub loop-k-init : goal.loop-k-init
-loop-k-init c = (omega arith, omega arith, going-none c.args.words c.args.base c.args.bits.now (moved (stands c.args.bits.now c.args.base) c.args.a) c.requires.0)
+loop-k-init c = (omega arith, omega arith, going-none c.args.words c.args.base c.args.bits.now (moved (stands c.args.bits.now c.args.base) c.args.a) (omega arith))
 
 pub loop-k-preserved : goal.loop-k-preserved
 loop-k-preserved c =

@@ -1,4 +1,0 @@
-use Rattle.book.proofs.is_near_live.Goals as goal
-
-pub returns : goal.returns
-returns c = rw (c.is_live.ensures, c.same_side.ensures, c.is_set.ensures, c.is_beyond-far.ensures)

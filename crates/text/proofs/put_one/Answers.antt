@@ -1,7 +1,0 @@
-use borrow.Author.Rules.{rules}
-use Rattle.text.proofs.WroteLaws.{join, whole}
-use Rattle.text.proofs.put_one.Goals as goal
-
-pub returns : goal.returns
-returns c =
-    whole (join c.put_word-at.ensures.0 (join c.put_next-at.ensures.0 c.put_byte.ensures.0)) (search rules) (search rules)
