@@ -69,8 +69,8 @@ pub fn print_tape(tape: &[u8]) -> u64
     let mut list = [0u64; NUMBERS];
     match session::begin(&mut longs, &mut words, tape) {
         Ok(b) => print_messages(&mut longs, &mut words, &mut list, &mut page, tape, b),
-        Err(row) => {
-            let n = session::put_refused(&mut page, 0, 0, u32::from(row));
+        Err(back) => {
+            let n = session::put_refused(&mut page, 0, 0, u32::from(back.row));
             let h = output::hand_over(&page[..n], 0);
             h.bytes
         }

@@ -1,5 +1,5 @@
 -- The lines of a tape's messages, and what is made of the lent slices and of the output: by a tape's opening, by one message, by one after another.
-use Rattle.std.specs.Prelude.{◌≡◌, List, [], ◌∷◌, ◌++◌, ℕ, zero, suc, ◌+◌, ◌-◌, ◌≤◌, ◌<◌, max, eqb, length, drop, Result, IfOk}
+use Rattle.std.specs.Prelude.{◌≡◌, List, [], ◌∷◌, ◌++◌, ℕ, zero, suc, ◌+◌, ◌-◌, ◌≤◌, ◌<◌, max, eqb, length, drop, Result, Ok, Err}
 use Rattle.rules.specs.Basics.{pick}
 use Rattle.rules.specs.Strategy.{opening_refusal}
 use Rattle.rules.specs.Messages.{Message}
@@ -9,8 +9,7 @@ use Rattle.rules.specs.Step.{step}
 use Rattle.rules.specs.Run.{opening, Sent, after}
 use Rattle.rules.specs.Tape.{header_of, messages_from, tape_refusal, strategy_of}
 use Rattle.rules.specs.Print.{Line, record_lines, refused_lines, lines_of}
-use Rattle.types.specs.declared.Refusal.{Refusal}
-use Rattle.types.specs.Refusals.{number_in}
+use Rattle.types.specs.Refusals.{number_of}
 use Rattle.state.specs.View.{state_of}
 use Rattle.state.specs.Lent.{Lent, LentMut}
 use Rattle.opening.specs.Opens.{opened_by}
@@ -18,6 +17,7 @@ use Rattle.tape.specs.View.{offset_after}
 use Rattle.text.specs.Text.{lines_text}
 use Rattle.text.specs.Outputs.{Puts, PutsFirst}
 use Rattle.session.specs.declared.Start.{Start}
+use Rattle.session.specs.declared.TurnedBack.{TurnedBack}
 use Rattle.session.specs.declared.Cursor.{Cursor}
 
 -- ---- lines
@@ -59,12 +59,27 @@ most_text = 512000
 
 -- ---- a tape begins
 
--- the number that turns back the tape, or else its opening's; where there is none, the message count and where the first one starts; where the tape is not turned back the slices hold the state that its opening begins with, and with a number above 0 they are as they were
-pub record Begins (longs words tape longs' words' : List ℕ) (r : Result Start Refusal) : Type 0 where
-  pub number : number_in r ≡ pick (eqb (tape_refusal tape) 0) (opening_refusal (strategy_of tape)) (tape_refusal tape)
-  pub start : IfOk r (λ b. (b.count ≡ (header_of tape).message_count) × (b.at ≡ (header_of tape).message_offset))
-  pub opened : tape_refusal tape ≡ 0 → opened_by (number_in r) (state_of longs' words') ≡ opening (strategy_of tape)
-  pub refused : 0 < number_in r → (longs' ≡ longs) × (words' ≡ words)
+-- n is the number that turns back the tape, or else its opening's; where the tape is not turned back the slices hold the state that its opening begins with, and with a number above 0 they are as they were
+pub record OpenedBy (longs words tape longs' words' : List ℕ) (n : ℕ) : Type 0 where
+  pub number : n ≡ pick (eqb (tape_refusal tape) 0) (opening_refusal (strategy_of tape)) (tape_refusal tape)
+  pub opened : tape_refusal tape ≡ 0 → opened_by n (state_of longs' words') ≡ opening (strategy_of tape)
+  pub refused : 0 < n → (longs' ≡ longs) × (words' ≡ words)
+
+-- the number of a beginning, 0 for none
+abbrev pub number_begun : Result Start TurnedBack → ℕ
+number_begun (Ok b) = 0
+number_begun (Err t) = number_of t.row
+
+-- the start that it tells, also of a tape that is turned back
+abbrev pub start_begun : Result Start TurnedBack → Start
+start_begun (Ok b) = b
+start_begun (Err t) = t.start
+
+-- the number, the slices, and the message count and where the first one starts
+pub record Begins (longs words tape longs' words' : List ℕ) (r : Result Start TurnedBack) : Type 0 where
+  pub by : OpenedBy longs words tape longs' words' (number_begun r)
+  pub count : (start_begun r).count ≡ (header_of tape).message_count
+  pub at : (start_begun r).at ≡ (header_of tape).message_offset
 
 -- ---- a message
 
@@ -91,7 +106,10 @@ pub record Runs (tape : List ℕ) (n : ℕ) (p : Cursor) (most : ℕ) (s : State
 
 -- ---- the same said of the lent slices, for contracts
 
-abbrev pub IsBegun : LentMut → LentMut → Lent → Result Start Refusal → Type 0
+abbrev pub IsOpenedBy : LentMut → LentMut → Lent → ℕ → Type 0
+IsOpenedBy longs words tape n = OpenedBy longs.entry.now words.entry.now tape.entry.now longs.exit.now words.exit.now n
+
+abbrev pub IsBegun : LentMut → LentMut → Lent → Result Start TurnedBack → Type 0
 IsBegun longs words tape r = Begins longs.entry.now words.entry.now tape.entry.now longs.exit.now words.exit.now r
 
 abbrev pub Tells : LentMut → LentMut → LentMut → LentMut → ℕ → ℕ → Message → ℕ → Type 0

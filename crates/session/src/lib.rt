@@ -4,11 +4,12 @@
 ghost use Rattle.std.specs.Prelude.{List, ℕ, ◌*◌, ◌≤◌, length};
 ghost use Rattle.rules.specs.Refusals.{least_room};
 ghost use Rattle.rules.specs.Print.{title_line, refused_line, closing, refused_lines};
+ghost use Rattle.types.specs.Refusals.{number_in};
 ghost use Rattle.types.specs.View.{message_of, outcome_of};
 ghost use Rattle.state.specs.View.{state_of};
 ghost use Rattle.records.specs.Records.{width};
 ghost use Rattle.text.specs.Outputs.{most_line, PutsLine, PutsLines};
-ghost use Rattle.session.specs.Lines.{IsBegun, Tells, IsRun};
+ghost use Rattle.session.specs.Lines.{IsOpenedBy, IsBegun, Tells, IsRun};
 
 use state::{Longs, Words};
 use types::{Fill, Message, Outcome, Refusal};
@@ -18,6 +19,13 @@ use types::{Fill, Message, Outcome, Refusal};
 pub struct Start {
     pub count: usize,
     pub at: usize,
+}
+
+// A tape that is turned back: by which row, and what its header says of its messages all the same.
+#[derive(Clone, Copy)]
+pub struct TurnedBack {
+    pub row: Refusal,
+    pub start: Start,
 }
 
 // Between two messages of a tape: how many are behind, where the next one starts, and the offset in the output.
@@ -31,16 +39,26 @@ pub struct Cursor {
 // ---- a tape begins
 
 // The opening of a tape, stored in the slices; or the row that turns back the tape or its opening.
-pub fn begin(longs: &mut Longs, words: &mut Words, tape: &[u8]) -> Result<Start, Refusal>
-    ensures { IsBegun longs words tape result }
+fn opened(longs: &mut Longs, words: &mut Words, tape: &[u8]) -> Result<(), Refusal>
+    ensures { IsOpenedBy longs words tape (number_in result) }
 {
     tape::refusal(tape)?;
-    opening::open(longs, words, tape::strategy_of(tape))?;
+    opening::open(longs, words, tape::strategy_of(tape))
+}
+
+// The same, and what the header says of the messages, of a tape that is turned back too.
+pub fn begin(longs: &mut Longs, words: &mut Words, tape: &[u8]) -> Result<Start, TurnedBack>
+    ensures { IsBegun longs words tape result }
+{
     let h = tape::header_of(tape);
-    Ok(Start {
+    let start = Start {
         count: h.messagecount as usize,
         at: h.messageoffset as usize,
-    })
+    };
+    match opened(longs, words, tape) {
+        Ok(()) => Ok(start),
+        Err(row) => Err(TurnedBack { row, start }),
+    }
 }
 
 // ---- lines of an output, each as far as the output has room

@@ -167,7 +167,8 @@ pub extern "C" fn tumghavi_open_in(longs: &mut [u64; 71], words: &mut [u32; 580]
     types::number_in(opening::open(longs, words, o))
 }
 
-// A message record's fields answered in a copy, with all places of the list.
+// A message record's fields answered in a copy, with all places of the list. Inlined: as a call of its own, a record of no kind took half as long again.
+#[inline(always)]
 fn tell(longs: &mut Longs, words: &mut Words, list: &mut [u64], f: Fields) -> Outcome
     ensures { Told longs words list (fields_of f) result }
 {
@@ -257,7 +258,7 @@ pub extern "C" fn tumghavi_print(tape: &[u8], out: &mut [u8]) -> usize
             let at = session::put_title(out, 0);
             put_messages(&mut longs, &mut words, out, at, tape, b)
         }
-        Err(row) => session::put_refused(out, 0, 0, u32::from(row)),
+        Err(back) => session::put_refused(out, 0, 0, u32::from(back.row)),
     }
 }
 

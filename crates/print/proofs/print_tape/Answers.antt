@@ -32,8 +32,8 @@ slice_bounds-hand_over-end c = sym (length-take-le _ _ (puts_room _ _ _ _ _ c.pu
 pub returns-in-Err : goal.returns-in-Err
 returns-in-Err c =
     let tape = c.args.tape.now in
-    let e : c.from.result ≡ number_of c.in-Err.row = c.from.ensures in
-    let all = ap length (back-text _ _ tape c.begin.new.longs c.begin.new.words c.in-Err.row c.in-Err.ensures) in
+    let e : c.from.result ≡ number_of c.in-Err.back.row = c.from.ensures in
+    let all = ap length (back-text _ _ tape c.begin.new.longs c.begin.new.words c.in-Err.back c.in-Err.ensures) in
     let l = rw e at c.put_refused-n.ensures in
     let end = l.0.end in
     let r = handed _ _ _ _ _ _ _ l.0 c.hand_over-h.ensures in

@@ -11,5 +11,5 @@ returns-in-Ok c =
 
 pub returns-in-Err : goal.returns-in-Err
 returns-in-Err c =
-    let e : c.from.result ≡ number_of c.in-Err.row = c.from.ensures in
-    all_put _ _ _ _ _ (back-text _ _ _ c.begin.new.longs c.begin.new.words c.in-Err.row c.in-Err.ensures) (rw e at c.put_refused.ensures.0)
+    let e : c.from.result ≡ number_of c.in-Err.back.row = c.from.ensures in
+    all_put _ _ _ _ _ (back-text _ _ _ c.begin.new.longs c.begin.new.words c.in-Err.back c.in-Err.ensures) (rw e at c.put_refused.ensures.0)
