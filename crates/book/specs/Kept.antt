@@ -17,4 +17,14 @@ pub record Columns (k m n : ℕ) (old new : List ℕ) : Type 0 where
   pub sized : length new ≡ length old
   pub before : (q i : ℕ) → q < n → i < k → get_or new (q * 64 + i) 0 ≡ get_or old (q * 64 + i) 0
   pub moved : (q i : ℕ) → q < n → k ≤ i → i + 1 < m → get_or new (q * 64 + i) 0 ≡ get_or old (q * 64 + (i + 1)) 0
+  pub behind : (q i : ℕ) → q < n → m ≤ i + 1 → i < 64 → get_or new (q * 64 + i) 0 ≡ get_or old (q * 64 + i) 0
   pub ahead : (i : ℕ) → n * 64 ≤ i → get_or new i 0 ≡ get_or old i 0
+
+-- the gap at place k has come to w: the entries between have moved by one place
+pub record Closing (k w : ℕ) (a l b m : List ℕ) : Type 0 where
+  pub sized : Sized b m
+  pub longs : Kept L.arrivals L.next a b
+  pub words : Kept L.ids L.count l m
+  pub before : (i : ℕ) → i < k → entry_at b m i ≡ entry_at a l i
+  pub moved : (i : ℕ) → k ≤ i → i < w → entry_at b m i ≡ entry_at a l (i + 1)
+  pub ahead : (i : ℕ) → w < i → i < 64 → entry_at b m i ≡ entry_at a l i

@@ -10,7 +10,7 @@ ghost use Rattle.state.specs.Layout as L;
 ghost use Rattle.state.specs.View.{entry_of, open_count};
 ghost use Rattle.state.specs.Stores.{Kept, put_longs, put_words};
 ghost use Rattle.state.specs.Lent.{TellsBoth, Becomes, WordsBecome};
-ghost use Rattle.book.specs.Kept.{KeptBy, Columns};
+ghost use Rattle.book.specs.Kept.{KeptBy, Columns, Closing};
 ghost use Rattle.book.specs.Questions.{FirstUnder, found_of};
 
 use super::{entry_at, find, is_response};
@@ -97,28 +97,40 @@ fn others(words: &Words, a: usize, x: u32) -> [bool; 64]
 
 // ---- one entry leaves
 
-// In all columns of the words those behind place k, up to before place m, moved by one place.
-fn shift_columns(words: &mut Words, k: usize, m: usize)
-    requires { (k < m) × (m ≤ 64) }
-    ensures { Columns k m 7 words.old words.new }
+// In all columns of the words the N numbers behind place w, moved by one place.
+fn shift_columns<const N: usize>(words: &mut Words, w: usize)
+    requires { w + N < 64 }
+    ensures { Columns w (w + N + 1) 7 words.old words.new }
 {
     for q in 0..7 {
-        let a = q * Book::MOST_ENTRIES;
-        words.copy_within(a + k + 1..a + m, a + k);
+        let a = q * Book::MOST_ENTRIES + w;
+        words[a..a + 1 + N].copy_within(1.., 0);
     }
 }
 
-// The book without the entry at place k: those behind it move by one place.
+// The N entries behind place w, moved by one place. A constant number, so that no column takes a loop.
+fn shift<const N: usize>(longs: &mut Longs, words: &mut Words, w: usize)
+    requires { w + N < 64 }
+    ensures { Closing w (w + N) longs.old words.old longs.new words.new }
+{
+    let a = Book::ARRIVALS + w;
+    longs[a..a + 1 + N].copy_within(1.., 0);
+    shift_columns::<N>(words, w);
+}
+
+// The book without the entry at place k: those behind it move by one place, four at a time as long as there are four.
 fn close_gap(longs: &mut Longs, words: &mut Words, k: usize)
     requires { k < open_count words.old }
     ensures { KeptBy (λ i. not (eqb i k)) longs.old words.old longs.new words.new }
 {
     let m = state::open_count(words);
-    longs.copy_within(
-        Book::ARRIVALS + k + 1..Book::ARRIVALS + m,
-        Book::ARRIVALS + k,
-    );
-    shift_columns(words, k, m);
+    let fours = (m - 1 - k) / 4;
+    for i in 0..fours {
+        shift::<4>(longs, words, k + 4 * i);
+    }
+    for w in k + 4 * fours..m - 1 {
+        shift::<1>(longs, words, w);
+    }
     words[Book::COUNT] = m as u32 - 1;
 }
 

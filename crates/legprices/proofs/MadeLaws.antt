@@ -9,7 +9,6 @@ use native.Mathlib.Omega.{arith}
 use lib.Dec.{eqb, leb}
 use lib.ListN.{length, get_or}
 use lib.Pow.{shr-shr, shr_le}
-use Rattle.std.specs.List.{CopiedTo, SameFrom}
 use Rattle.types.specs.View.{upto}
 use Rattle.types.proofs.TableLaws.{from_cons, from_end}
 use Rattle.legprices.specs.declared.Ranges.{Ranges}
@@ -54,17 +53,6 @@ module _ (words b : ℕ) (old : List ℕ) (r : ℕ) where
     below = λ i j. q.below i j ∙ p.below i j;
     above = λ i j. q.above i j ∙ p.above i j;
   }
-
--- the second table copied to the first
-pub changed_copied : (old new : List ℕ) → length new ≡ 44 → CopiedTo old new table_words 0 table_words → SameFrom old new table_words → Changed table_words 0 old new (stands old table_words)
-changed_copied old new h c f = record {
-  sized = h;
-  inside = λ s l.
-      let z : 0 + s / 64 - 0 ≡ s / 64 = omega arith in
-      ap (λ (x : ℕ). bit x (s % 64)) (rw z at (c (0 + s / 64) 0 (omega arith) (omega arith)));
-  below = λ i l. absurd (omega arith);
-  above = λ i l. f i 0 (omega arith);
-}
 
 -- ---- a table of the sums that legs can make
 

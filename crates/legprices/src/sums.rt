@@ -67,6 +67,15 @@ fn clear(bits: &mut [u64; 44], base: usize)
     bits[base] = 1;
 }
 
+// The second table as the first. No `copy_within`, which is a call of memcpy: no message makes one.
+fn copy(bits: &mut [u64; 44])
+    ensures { Changed table_words 0 bits.old bits.new (stands bits.old table_words) }
+{
+    for k in (0..TABLE_WORDS).rev() {
+        bits[k] = bits[TABLE_WORDS + k];
+    }
+}
+
 // The table of the last two legs. One leg makes at most 450, and two 900.
 fn last_two(legs: &Ranges, bits: &mut [u64; 44])
     requires { Bounded legs.now × (3 ≤ legs.now.count) }
@@ -89,7 +98,7 @@ pub fn make(legs: &Ranges, bits: &mut [u64; 44])
     }
     last_two(legs, bits);
     if legs.count == 4 {
-        bits.copy_within(TABLE_WORDS..2 * TABLE_WORDS, 0);
+        copy(bits);
         smear(bits, 0, TABLE_WORDS, legs.ratios[1], legs.widths[1]);
     }
 }

@@ -1,5 +1,5 @@
 use native.Mathlib.Omega.{arith}
-use Rattle.legprices.proofs.MadeLaws.{changed_copied, span-most, made, made-three}
+use Rattle.legprices.proofs.MadeLaws.{span-most, made, made-three}
 use Rattle.legprices.proofs.sums.make.Goals as goal
 
 pub returns-then-legs-lt3 : goal.returns-then-legs-lt3
@@ -16,7 +16,7 @@ smear-requires c =
 pub returns-then-legs-eq4 : goal.returns-then-legs-eq4
 returns-then-legs-eq4 c =
     let a = c.args in
-    made-three a.legs.now c.requires _ _ _ c.if-legs-eq4.true c.last_two.ensures (changed_copied _ _ (omega arith) c.copy_within.ensures.by_index.0 c.copy_within.ensures.by_index.2) c.smear.ensures
+    made-three a.legs.now c.requires _ _ _ c.if-legs-eq4.true c.last_two.ensures c.copy.ensures c.smear.ensures
 
 pub returns-else-legs-eq4 : goal.returns-else-legs-eq4
 returns-else-legs-eq4 c =
