@@ -114,7 +114,7 @@ tape_holds t h =
     record { header = s.least; legs = s.legs; messages = s.messages; size = omega (arith, s.room, s.most) }
 
 -- under 60 and 61
-is_refused : (t buffer : List ℕ) (n : ℕ) → n ≡ tape_refusal t → (n ≡ 0 → ⊥) → (record { number = n; size = 0 } ≡ reply_to t buffer) × (buffer ≡ buffer_after t buffer)
+pub is_refused : (t buffer : List ℕ) (n : ℕ) → n ≡ tape_refusal t → (n ≡ 0 → ⊥) → (record { number = n; size = 0 } ≡ reply_to t buffer) × (buffer ≡ buffer_after t buffer)
 is_refused t buffer n e h =
     let g = (good_reply t buffer).refused (λ z. h (e ∙ z)) in
     (sym (g.0 ∙ ap (λ (k : ℕ). record { number = k; size = 0 }) (sym e)), sym g.1)
